@@ -1,0 +1,12 @@
+pub mod Laws
+pub mod Runs
+pub mod Covers
+pub mod Sounds
+pub mod Forest
+pub mod Parse
+pub mod Under
+pub mod Rows
+pub mod RoundTrip
+pub mod Edges
+pub mod Parents
+pub mod Children
