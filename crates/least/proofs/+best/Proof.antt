@@ -1,0 +1,167 @@
+-- `least::best` meets its contract. The invariant: what is summed and what is ahead come to what lies below, and the plan holds the choices of the branches passed. Assumes nothing.
+use mathlib.Core.Path.{ap, ap₂, subst, _∙_}
+use Prim.Native.Nat.{_+_, _-_}
+use native.Mathlib.Omega.{arith}
+use mathlib.Core.Logic.{⊎-elim}
+use lib.ListN.{length-set}
+use Rattle.dossier.specs.Bytes.{records, byteOf}
+use Rattle.least.specs.declared.Sums.{Sums}
+use Rattle.least.specs.declared.Branch.{Branch}
+use Rattle.least.specs.declared.Chosen.{Chosen}
+use Rattle.least.specs.Inner.{plusOf, chosenOf, Planned}
+use Rattle.least.proofs.Branches.{Summed, start, turn, over-end, over-out, small}
+use Rattle.least.proofs.Plans.{planned-none, planned-more, planned-first}
+use Prim.Native.Nat.{ℕ, _<_}
+use borrow.Fn.Kinds.{In}
+use borrow.Fn.PlainCycle.{Measures, is, falls, and}
+use Rattle.least.proofs.best.Reads as best
+use Rattle.least.proofs.best.Kinds as best-kinds
+use Rattle.least.proofs.+best.Lts-best as best-lts
+use Rattle.least.proofs.choose.Reads as choose-reads
+use Rattle.least.proofs.plus.Reads as plus-reads
+use Rattle.least.proofs.+best.{statement}
+use Rattle.least.proofs.+best.Tie.{close}
+
+abbrev branch-of : Sums → ℕ → Branch
+branch-of s n = record { sums = s; next = n }
+
+abbrev μ-best : Measures 2 best-kinds.ps ℕ
+μ-best κs a = a .1 .1 .1 .1 .0
+
+abbrev best-at : ℕ → In 2 best-kinds.ps
+best-at t = and 2 best-kinds.ps (is 2 best-kinds.ps μ-best t) best.Pre
+
+abbrev best-below : ℕ → In 2 best-kinds.ps
+best-below t = and 2 best-kinds.ps (falls 2 best-kinds.ps _<_ μ-best t) best.Pre
+
+abbrev claims : ℕ → best-lts.Claims
+claims t = (best-below t, best.Post, plus-reads.Asked, plus-reads.Learnt, choose-reads.Asked, choose-reads.Learnt)
+
+abbrev best-Inv-loop : best-lts.InvT-loop
+best-Inv-loop d plan₀ gateway at left count depth sums₀ p₀ plan sums p = Summed gateway d at p sums × Planned gateway d (at + 1) p plan₀ plan
+
+abbrev best-μ-loop : best-lts.MeasureT-loop
+best-μ-loop d plan₀ gateway at left count depth sums₀ p₀ plan sums p = records d - p
+
+best-mul-depth : (t : ℕ) → best-lts.Need-mul-depth (claims t) (best-at t) best.Post best-Inv-loop best-μ-loop
+best-mul-depth t c = omega arith
+
+best-shared-slice-read-depth : (t : ℕ) → best-lts.Need-shared-slice-read-depth (claims t) (best-at t) best.Post best-Inv-loop best-μ-loop
+best-shared-slice-read-depth t c = omega arith
+
+best-add-p : (t : ℕ) → best-lts.Need-add-p (claims t) (best-at t) best.Post best-Inv-loop best-μ-loop
+best-add-p t c = omega arith
+
+best-loop-holds : (t : ℕ) → best-lts.Need-loop-holds (claims t) (best-at t) best.Post best-Inv-loop best-μ-loop
+best-loop-holds t c = (start _ _ _ (c .before .before .before .pre .1 .there), planned-none _ _ _ _)
+
+best-mul-if1 : (t : ℕ) → best-lts.Need-mul-if1 (claims t) (best-at t) best.Post best-Inv-loop best-μ-loop
+best-mul-if1 t c = omega arith
+
+best-shared-slice-read-if1 : (t : ℕ) → best-lts.Need-shared-slice-read-if1 (claims t) (best-at t) best.Post best-Inv-loop best-μ-loop
+best-shared-slice-read-if1 t c = omega arith
+
+best-sub-best : (t : ℕ) → best-lts.Need-sub-best (claims t) (best-at t) best.Post best-Inv-loop best-μ-loop
+best-sub-best t c =
+    let s = c .before .before .before .before .before .before .before .before in
+    omega (arith, s .pre .1 .sound .shallow (s .args .at) (s .pre .1 .there))
+
+best-best-requires : (t : ℕ) → best-lts.Need-best-requires (claims t) (best-at t) best.Post best-Inv-loop best-μ-loop
+best-best-requires t c κs =
+    let s = c .before .before .before .before .before .before .before .before in
+    let ready = s .pre .1 in
+    let there = c .before .before .before .loop-test .taken in
+    let deep = c .before .if1 .left in
+    let shallow = ready .sound .shallow (s .args .at) (ready .there) in
+    let kept = c .before .before .before .before .loop .inv .1 .long in
+    (omega arith, record { sound = ready .sound; there = there; enough = omega arith; room = omega arith })
+
+-- a child's branch is summed
+turned : (t : ℕ) (c : best-lts.After-best (claims t) (best-at t) best.Post best-Inv-loop best-μ-loop)
+    → Summed
+    (c .before .before .before .before .before .before .before .before .before .args .gateway)
+    (c .before .before .before .before .before .before .before .before .before .args .d .now)
+    (c .before .before .before .before .before .before .before .before .before .args .at)
+    (c .best .result .next)
+    (plusOf (c .before .before .before .before .before .loop .sums) (c .best .result .sums))
+turned t c =
+    rw (c .best .ensures .0)
+    (turn _ _ _ _ _ (c .before .before .before .before .before .loop .inv .0) (c .before .before .before .before .loop-test .taken) (c .before .before .if1 .left))
+
+best-plus-requires : (t : ℕ) → best-lts.Need-plus-requires (claims t) (best-at t) best.Post best-Inv-loop best-μ-loop
+best-plus-requires t c κs =
+    let s = c .before .before .before .before .before .before .before .before .before .before .before .before in
+    small _ _ _ _ _ (turned t (c .before .before .before)) (s .pre .1 .sound)
+
+best-loop-less : (t : ℕ) → best-lts.Need-loop-less (claims t) (best-at t) best.Post best-Inv-loop best-μ-loop
+best-loop-less t c = omega (arith, ap (λ (b : Branch). b .next) (c .before .before .before .before .best .ensures .0))
+
+best-loop-again : (t : ℕ) → best-lts.Need-loop-again (claims t) (best-at t) best.Post best-Inv-loop best-μ-loop
+best-loop-again t c =
+    let called = c .before .before .before .before in
+    let inv = called .before .before .before .before .before .loop .inv in
+    let next = ap (λ (b : Branch). b .next) (called .best .ensures .0) in (
+      rw (c .plus .ensures) (turned t called),
+      rw (called .best .ensures .0) (planned-more _ _ _ _ _ _ _ _ (inv .0 .low) (omega arith) (inv .1) (called .best .ensures .1)),
+    )
+
+best-mul-choose : (t : ℕ) → best-lts.Need-mul-choose (claims t) (best-at t) best.Post best-Inv-loop best-μ-loop
+best-mul-choose t c = omega arith
+
+best-add-choose : (t : ℕ) → best-lts.Need-add-choose (claims t) (best-at t) best.Post best-Inv-loop best-μ-loop
+best-add-choose t c = omega arith
+
+best-shared-slice-read-choose : (t : ℕ) → best-lts.Need-shared-slice-read-choose (claims t) (best-at t) best.Post best-Inv-loop best-μ-loop
+best-shared-slice-read-choose t c = omega arith
+
+best-choose-requires : (t : ℕ) → best-lts.Need-choose-requires (claims t) (best-at t) best.Post best-Inv-loop best-μ-loop
+best-choose-requires t c κs =
+    let s = c .before .before .before .before .before .before in
+    small _ _ _ _ _ (c .before .before .loop .inv .0) (s .pre .1 .sound)
+
+best-slice-write-plan : (t : ℕ) → best-lts.Need-slice-write-plan (claims t) (best-at t) best.Post best-Inv-loop best-μ-loop
+best-slice-write-plan t c = omega arith
+
+best-same-length : (t : ℕ) → best-lts.Need-same-length (claims t) (best-at t) best.Post best-Inv-loop best-μ-loop
+best-same-length t c = simp length-set (c .before .before .before .before .loop .inv .1 .long)
+
+best-returns : (t : ℕ) → best-lts.Need-returns (claims t) (best-at t) best.Post best-Inv-loop best-μ-loop
+best-returns t c =
+    let s = c .before .before .before .before .before .before .before .before in
+    let d = s .args .d .now in
+    let at = s .args .at in
+    let inv = c .before .before .before .before .loop .inv in
+    let over = ⊎-elim
+    (λ w. over-end _ _ _ _ _ (inv .0) (w .left))
+    (λ w. over-out _ _ _ _ _ (inv .0) (w .0 .taken) (w .2 .taken))
+    (c .before .before .before .loop-test .came) in
+    let chosen = c .before .choose .ensures ∙ ap (chosenOf (s .args .gateway) (byteOf d at 1)) (over .0) in
+    let planned = subst (λ (n : ℕ). Planned (s .args .gateway) d (at + 1) n (s .args .plan .now) (c .before .before .before .before .loop .plan)) (over .1) (inv .1) in (
+      ap₂ branch-of (ap (λ (x : Chosen). x .sums) chosen) (over .1),
+      planned-first _ _ _ _ _ _ _ (omega arith) (omega arith) (ap (λ (x : Chosen). x .marks) chosen) planned,
+    )
+
+pub +best-spec : {M : Type 1} → statement M
++best-spec = close μ-best λ t. best-lts.spec (claims t)
+    (best-at t)
+    best.Post
+    best-Inv-loop
+    best-μ-loop
+    (best-mul-depth t)
+    (best-shared-slice-read-depth t)
+    (best-add-p t)
+    (best-loop-holds t)
+    (best-mul-if1 t)
+    (best-shared-slice-read-if1 t)
+    (best-sub-best t)
+    (best-best-requires t)
+    (best-plus-requires t)
+    (best-loop-less t)
+    (best-loop-again t)
+    (best-mul-choose t)
+    (best-add-choose t)
+    (best-shared-slice-read-choose t)
+    (best-choose-requires t)
+    (best-slice-write-plan t)
+    (best-same-length t)
+    (best-returns t)

@@ -1,0 +1,17 @@
+pub mod Choice
+pub mod Minimal
+pub mod Sides
+pub mod Folds
+pub mod Verdicts
+pub mod Agreeing
+pub mod Summing
+pub mod Passing
+pub mod Prices
+pub mod Branches
+pub mod Plans
+pub mod Whole
+pub mod Placing
+pub mod Walked
+pub mod Replies
+pub mod Determined
+pub mod OwnMarks
