@@ -1,5 +1,4 @@
 // Least marks: the folder that writes them, and the judge of anyone's marks.
-use dossier::DEEPEST;
 use dossier::Decision;
 use dossier::MOST_ELEMENTS;
 use dossier::Refusal;

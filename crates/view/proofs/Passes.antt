@@ -1,0 +1,111 @@
+-- A pass over the records: what is shown, what is left of it from a record on, and what one record adds. Assumes nothing.
+use mathlib.Core.Path.{_≡_, refl, ap, _∙_}
+use Prim.Native.Nat.{ℕ, zero, suc, _+_, _*_, _-_, _≤_, _<_}
+use native.Mathlib.Nat.{sub-zero}
+use native.Mathlib.Numerals.{add-one}
+use native.Mathlib.Omega.{arith}
+use mathlib.Core.Bool.{Bool, true, false, cond}
+use mathlib.Core.List.{List, [], _∷_, _++_}
+use lib.ListN.{length, length-append}
+use lib.Seq.{sets}
+use Rattle.dossier.specs.Limits.{width}
+use Rattle.dossier.specs.Bytes.{records, recordAt, joined}
+use Rattle.view.specs.Inner.{shows, handedFirst, handedAfter, shownFrom, shownOf, bytesOf, bytesIf}
+use Rattle.dossier.proofs.Stores.{sets-more}
+use Rattle.view.proofs.Writing.{record-long}
+
+-- what is left to show from record i on
+unfoldable pub rest : List ℕ → List ℕ → ℕ → List (List ℕ)
+rest handed d i = shownFrom handed d i (records d - i)
+
+pub rest-first : (d : List ℕ) → rest handedFirst d 0 ≡ shownOf d
+unfolding rest shownOf
+rest-first d = rw sub-zero
+
+pub rest-none : (handed d : List ℕ) (i : ℕ) → records d ≤ i → rest handed d i ≡ []
+unfolding rest shownFrom
+rest-none handed d i l = let e : records d - i ≡ 0 = omega arith in rw e
+
+-- with nothing left to show, no place is needed, and what is written stays
+pub bytes-none : (handed d : List ℕ) (i : ℕ) → records d ≤ i → length (bytesOf (rest handed d i)) ≡ 0
+unfolding bytesOf
+bytes-none handed d i l = rw (rest-none handed d i l)
+
+pub written-all : (handed d : List ℕ) (i : ℕ) (out : List ℕ) (at : ℕ) → records d ≤ i → sets out at (bytesOf (rest handed d i)) ≡ out
+unfolding bytesOf
+written-all handed d i out at l = rw (rest-none handed d i l)
+
+rest-next : (handed d : List ℕ) (i : ℕ) → i < records d
+    → rest handed d i ≡ cond (shows handed d i) (recordAt d i ∷ rest (handedAfter handed d i) d (i + 1)) (rest (handedAfter handed d i) d (i + 1))
+unfolding rest shownFrom
+rest-next handed d i l = let e : records d - i ≡ suc (records d - (i + 1)) = omega arith in rw (e, add-one)
+
+-- no more are shown than there are
+shown-few : (handed d : List ℕ) (i n : ℕ) → length (shownFrom handed d i n) ≤ n
+unfolding shownFrom
+shown-few handed d i zero = omega arith
+shown-few handed d i (suc n) = go (shows handed d i) (recordAt d i) _ (shown-few (handedAfter handed d i) d (suc i) n)
+  where
+    go : (b : Bool) (r : List ℕ) (rs : List (List ℕ)) → length rs ≤ n → length (cond b (r ∷ rs) rs) ≤ suc n
+    go true r rs h = omega arith
+    go false r rs h = omega arith
+
+pub few : (d : List ℕ) → length (shownOf d) ≤ records d
+unfolding shownOf
+few d = shown-few handedFirst d 0 (records d)
+
+-- shown records are whole
+shown-long : (handed d : List ℕ) (i n : ℕ) → i + n ≤ records d → length (bytesOf (shownFrom handed d i n)) ≡ length (shownFrom handed d i n) * width
+unfolding shownFrom bytesOf
+shown-long handed d i zero l = refl
+shown-long handed d i (suc n) l =
+    go (shows handed d i) (recordAt d i) _ (record-long d i (omega arith)) (shown-long (handedAfter handed d i) d (suc i) n (omega arith))
+  where
+    go : (b : Bool) (r : List ℕ) (rs : List (List ℕ)) → length r ≡ width → length (joined (λ x. x) rs) ≡ length rs * width
+        → length (joined (λ x. x) (cond b (r ∷ rs) rs)) ≡ length (cond b (r ∷ rs) rs) * width
+    go true r rs e h = omega (arith, length-append r (joined (λ x. x) rs))
+    go false r rs e h = h
+
+pub bytes-long : (d : List ℕ) → length (bytesOf (shownOf d)) ≡ length (shownOf d) * width
+unfolding shownOf
+bytes-long d = shown-long handedFirst d 0 (records d) (omega arith)
+
+-- ---- the bytes of one record
+
+module _ (d : List ℕ) (i : ℕ) {b : Bool} where
+  pub shown-bytes : b ≡ true → bytesIf b d i ≡ recordAt d i
+  unfolding bytesIf
+  shown-bytes e = rw e
+
+  pub hidden-bytes : b ≡ false → bytesIf b d i ≡ []
+  unfolding bytesIf
+  hidden-bytes e = rw e
+
+  pub shown-width : i < records d → b ≡ true → length (bytesIf b d i) ≡ width
+  shown-width l e = ap length (shown-bytes e) ∙ record-long d i l
+
+-- ---- one record, where the test said `b` and left `handed′`
+
+module _ (handed d : List ℕ) (i : ℕ) {handed′ : List ℕ} {b : Bool} (l : i < records d) (p : b ≡ shows handed d i) (q : handed′ ≡ handedAfter handed d i) where
+  pub counted-next : length (rest handed d i) ≡ cond b 1 0 + length (rest handed′ d (i + 1))
+  counted-next = ap length (rest-next handed d i l) ∙ rw (← p, ← q) (go b (recordAt d i) (rest handed′ d (i + 1)))
+    where
+      go : (t : Bool) (r : List ℕ) (rs : List (List ℕ)) → length (cond t (r ∷ rs) rs) ≡ cond t 1 0 + length rs
+      go true r rs = omega arith
+      go false r rs = omega arith
+
+  pub bytes-next : bytesOf (rest handed d i) ≡ bytesIf b d i ++ bytesOf (rest handed′ d (i + 1))
+  unfolding bytesOf bytesIf
+  bytes-next = ap bytesOf (rest-next handed d i l) ∙ rw (← p, ← q) (go b (recordAt d i) (rest handed′ d (i + 1)))
+    where
+      go : (t : Bool) (r : List ℕ) (rs : List (List ℕ)) → joined (λ x. x) (cond t (r ∷ rs) rs) ≡ cond t r [] ++ joined (λ x. x) rs
+      go true r rs = refl
+      go false r rs = refl
+
+  pub length-next : length (bytesOf (rest handed d i)) ≡ length (bytesIf b d i) + length (bytesOf (rest handed′ d (i + 1)))
+  length-next = ap length bytes-next ∙ length-append (bytesIf b d i) (bytesOf (rest handed′ d (i + 1)))
+
+  -- what is left to write, written from its place on
+  pub written-next : (out : List ℕ) (at : ℕ) {out′ : List ℕ} {at′ : ℕ} → out′ ≡ sets out at (bytesIf b d i) → at′ ≡ at + length (bytesIf b d i)
+      → sets out′ at′ (bytesOf (rest handed′ d (i + 1))) ≡ sets out at (bytesOf (rest handed d i))
+  written-next out at s t = rw (s, t, bytes-next) (sets-more out at (bytesIf b d i) (bytesOf (rest handed′ d (i + 1))))

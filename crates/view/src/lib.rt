@@ -1,0 +1,122 @@
+// The recipient's view of a dossier.
+use dossier::Reply;
+use dossier::WIDTH;
+use marks::DEPTHS;
+ghost use mathlib.Core.Path.{_≡_};
+ghost use Prim.Native.Nat.{_+_, _*_, _≤_, _<_};
+ghost use lib.Dec.{leb};
+ghost use lib.ListN.{length};
+ghost use lib.Seq.{sets};
+ghost use Rattle.dossier.specs.Limits.{width};
+ghost use Rattle.dossier.specs.Bytes.{records, recordAt};
+ghost use Rattle.view.specs.View.{Views};
+ghost use Rattle.view.specs.Inner.{shows, handedAfter, shownOf, bytesIf, bytesOf};
+
+// The number of the answer permit.
+const PERMIT: u8 = 1;
+
+// Whether record i belongs in the view. `handed` is what each open depth hands down, and its own then hands down what its mark says.
+fn shown(d: &[u8], i: usize, handed: &mut [u8]) -> bool
+    requires { ⌜ i < records (now d) ⌝ }
+    ensures { λ r. ⌜ (r ≡ shows (now (handed .entry)) (now (d .entry)) i) × (now (handed .exit) ≡ handedAfter (now (handed .entry)) (now (d .entry)) i) ⌝ }
+{
+    let at = i * WIDTH;
+    let depth = d[at] as usize;
+    let answer = marks::hand_on(handed, depth, d[at + 1], d[at + 2]);
+    answer == PERMIT
+}
+
+// How many records are shown.
+fn count(d: &[u8]) -> usize
+    ensures { λ r. ⌜ r ≡ length (shownOf (now (d .entry))) ⌝ }
+{
+    let n = d.len() / WIDTH;
+    let mut handed = [2u8; DEPTHS];
+    let mut sum: usize = 0;
+    let mut i: usize = 0;
+    while i < n {
+        if shown(d, i, &mut handed) {
+            sum += 1;
+        }
+        i += 1;
+    }
+    sum
+}
+
+// Whether so many bytes have room for the records that are shown: room for all records is enough, and then none is counted.
+fn has_room(d: &[u8], room: usize) -> bool
+    ensures { λ r. ⌜ r ≡ leb (length (shownOf (now (d .entry))) * width) room ⌝ }
+{
+    if d.len() <= room {
+        return true;
+    }
+    count(d) * WIDTH <= room
+}
+
+// Writes record i to the area from byte `at` on. Its bytes are all read before the first is written, so that they can move at once.
+fn put(d: &[u8], i: usize, out: &mut [u8], at: usize)
+    requires { ⌜ (i < records (now d)) × (at + width ≤ length (now out)) ⌝ }
+    ensures { λ _. ⌜ now (out .exit) ≡ sets (now (out .entry)) at (recordAt (now (d .entry)) i) ⌝ }
+{
+    let from = i * WIDTH;
+    let b0 = d[from];
+    let b1 = d[from + 1];
+    let b2 = d[from + 2];
+    let b3 = d[from + 3];
+    let b4 = d[from + 4];
+    let b5 = d[from + 5];
+    let b6 = d[from + 6];
+    let b7 = d[from + 7];
+    out[at] = b0;
+    out[at + 1] = b1;
+    out[at + 2] = b2;
+    out[at + 3] = b3;
+    out[at + 4] = b4;
+    out[at + 5] = b5;
+    out[at + 6] = b6;
+    out[at + 7] = b7;
+}
+
+// The same only where the record belongs in the view; the place behind what was written.
+fn put_if(belongs: bool, d: &[u8], i: usize, out: &mut [u8], at: usize) -> usize
+    requires { ⌜ (i < records (now d)) × (at + length (bytesIf belongs (now d) i) ≤ length (now out)) ⌝ }
+    ensures { λ r. ⌜ (r ≡ at + length (bytesIf belongs (now (d .entry)) i)) × (now (out .exit) ≡ sets (now (out .entry)) at (bytesIf belongs (now (d .entry)) i)) ⌝ }
+{
+    if belongs {
+        put(d, i, out, at);
+        return at + WIDTH;
+    }
+    at
+}
+
+// Writes the records that are shown to the area's front, and says how many they are.
+fn copy(d: &[u8], out: &mut [u8]) -> usize
+    requires { ⌜ length (shownOf (now d)) * width ≤ length (now out) ⌝ }
+    ensures { λ r. ⌜ (r ≡ length (shownOf (now (d .entry)))) × (now (out .exit) ≡ sets (now (out .entry)) 0 (bytesOf (shownOf (now (d .entry))))) ⌝ }
+{
+    let n = d.len() / WIDTH;
+    let mut handed = [2u8; DEPTHS];
+    let mut at: usize = 0;
+    let mut i: usize = 0;
+    while i < n {
+        let belongs = shown(d, i, &mut handed);
+        at = put_if(belongs, d, i, &mut *out, at);
+        i += 1;
+    }
+    at / WIDTH
+}
+
+// Writes the view to the area's front and replies how many records it has; or refuses and writes nothing.
+pub fn view(d: &[u8], out: &mut [u8]) -> Reply
+    ensures { λ r. ⌜ Views (now (d .entry)) (now (out .entry)) r (now (out .exit)) ⌝ }
+{
+    let read = dossier::read(d);
+    if let Reply::Refused(f) = read {
+        return Reply::Refused(f);
+    }
+    if !has_room(d, out.len()) {
+        return dossier::refused(8, 0, 0);
+    }
+    let n = copy(d, &mut *out);
+    Reply::Count(n)
+}
