@@ -1,0 +1,4 @@
+// Reads a dossier on standard input, folds it, and prints its rules.
+fn main() {
+    front::whole();
+}

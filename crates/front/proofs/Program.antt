@@ -1,0 +1,60 @@
+-- What is printed is one text, and it speaks of the whole input though only its front is kept. Assumes nothing.
+use mathlib.Core.Path.{_≡_, refl, sym, ap, ap₂, subst, _∙_}
+use Prim.Native.Nat.{ℕ, _<_}
+use native.Mathlib.Omega.{arith}
+use native.Mathlib.Decide.{decLe}
+use native.Mathlib.Nat.{lt-of-not-le}
+use mathlib.Core.List.{List, [], _∷_}
+use lib.ListN.{length}
+use Rattle.dossier.specs.Elements.{deny, permit}
+use Rattle.dossier.specs.Reading.{readOf}
+use Rattle.dossier.specs.declared.Reply.{Reply}
+use Rattle.dossier.specs.declared.Reply.the-variants.{Count, Refused}
+use Rattle.dossier.proofs.Sounds.{counted-sound}
+use Rattle.rules.specs.Rules.{self, all}
+use Rattle.least.specs.Folding.{FoldedAfter}
+use Rattle.least.proofs.Determined.{folded-unique}
+use Rattle.front.specs.Standing.{mostBytes, Kept}
+use Rattle.front.specs.Printing.{ascii, places, decimal, rulesText, refusalText, textAfter, Printed}
+use Rattle.front.proofs.Standing.{kept-read}
+
+-- any two texts that may be printed of a dossier are equal
+pub printed-unique : (d t u : List ℕ) → Printed d t → Printed d u → t ≡ u
+printed-unique d t u a b =
+    let same = folded-unique d (a .reply) (b .reply) (a .new) (b .new) (a .folded) (b .folded) in
+    a .says ∙ ap₂ {C = List ℕ} (λ x y. textAfter x y) (same .0) (same .1) ∙ sym (b .says)
+
+-- ---- the whole input
+
+-- too many bytes are refused, and the same refusal is printed
+refused-whole : (w d t : List ℕ) → mostBytes < length w → readOf d ≡ readOf w → Printed d t → Printed w t
+refused-whole w d t many same p = go (readOf w) refl
+  where
+    go : (q : Reply) → readOf w ≡ q → Printed w t
+    go (Count n) e = absurd (omega (arith, counted-sound w n e .few))
+    go (Refused f) e =
+        let f-d : FoldedAfter (Refused f) d (p .reply) (p .new) = rw (same ∙ e) at (p .folded) in
+        record {
+          reply = Refused f;
+          new = w;
+          folded = rw e (refl, refl);
+          says = p .says ∙ ap (λ (q : Reply). textAfter q (p .new)) (f-d .0);
+        }
+
+-- what is printed of what is kept is what is printed of the whole input
+pub printed-whole : (w d t : List ℕ) → Kept w d → Printed d t → Printed w t
+printed-whole w d t kept p = elim (decLe (length w) mostBytes) [
+  | yes few ↦ subst (λ (x : List ℕ). Printed x t) (kept .same few) p
+  | no other ↦ refused-whole w d t (lt-of-not-le other) (kept-read w d kept) p
+]
+
+-- ---- the two kinds of text
+
+example-rules : rulesText (record { target = 1; effect = permit; reach = self; key = 20 } ∷ record { target = 0; effect = deny; reach = all; key = 10 } ∷ [])
+    ≡ ascii "rules 2\n1 permit self\n0 deny all\n"
+unfolding rulesText decimal places
+example-rules = refl
+
+example-refusal : refusalText (record { number = 5; list = 0; position = 64 }) ≡ ascii "refused 5 0 64\n"
+unfolding refusalText decimal places
+example-refusal = refl

@@ -1,0 +1,25 @@
+-- `put_line` meets its contract: the parts of a line follow each other.
+use Rattle.front.proofs.Putting.{first-room, left-first, left-more, left-last, left-room, last-room}
+use borrow.Author.Needs.{needs}
+use Rattle.front.proofs.put_line.Statement.{statement}
+use Rattle.front.proofs.put_line.Tie as tie
+
+put-number-requires : tie.Need-put-number-requires
+put-number-requires c κs = first-room _ (c .before .before .pre)
+
+put-effect-requires : tie.Need-put-effect-requires
+put-effect-requires c κs = left-room _ (left-first (c .before .before .before .before .before .before .pre) (c .before .before .before .put-number .ensures))
+
+put-reach-requires : tie.Need-put-reach-requires
+put-reach-requires c κs = last-room (left-more (left-first (c .before .before .before .before .before .before .before .before .before .before .pre) (c .before .before .before .before .before .before .before .put-number .ensures)) (c .before .before .before .put-effect .ensures))
+
+same-length : tie.Need-same-length
+same-length c = search needs
+
+returns : tie.Need-returns
+returns c = left-last (left-more (left-first (c .before .before .before .before .before .before .before .before .before .before .before .before .before .pre) (c .before .before .before .before .before .before .before .before .before .before .put-number .ensures)) (c .before .before .before .before .before .before .put-effect .ensures)) (c .before .before .put-reach .ensures)
+
+pub put-line-spec : {M : Type 1} → statement M
+put-line-spec =
+    tie.close
+    (tie.spec put-number-requires put-effect-requires put-reach-requires same-length returns)

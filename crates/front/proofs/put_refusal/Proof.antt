@@ -1,0 +1,45 @@
+-- `put_refusal` meets its contract: the parts of the line follow each other.
+use native.Mathlib.Omega.{arith}
+use Rattle.front.specs.Printing.{refusalText}
+use Rattle.front.proofs.Putting.{left-first, left-more, left-last, left-room, last-room}
+use Rattle.front.proofs.Lines.{refusal-room}
+use borrow.Author.Needs.{needs}
+use Rattle.front.proofs.put_refusal.Statement.{statement}
+use Rattle.front.proofs.put_refusal.Tie as tie
+
+slice-aggregate-put-word : tie.Need-slice-aggregate-put-word
+slice-aggregate-put-word c = search needs
+
+put-word-requires : tie.Need-put-word-requires
+put-word-requires c κs = search needs
+
+put-ended-requires : tie.Need-put-ended-requires
+unfolding refusalText
+put-ended-requires c κs = left-room _ (left-first (refusal-room _ (c .before .before .before .before .before .before .before .args .number) (c .before .before .before .before .before .before .before .args .list) (c .before .before .before .before .before .before .before .args .position) (omega (arith, c .before .before .before .before .before .before .before .fits .number)) (omega (arith, c .before .before .before .before .before .before .before .fits .list)) (omega (arith, c .before .before .before .before .before .before .before .fits .position)) (c .before .before .before .before .before .before .before .pre)) (c .before .before .before .put-word .ensures))
+
+put-ended-requires-2 : tie.Need-put-ended-requires-2
+unfolding refusalText
+put-ended-requires-2 c κs = left-room _ (left-more (left-first (refusal-room _ (c .before .before .before .before .before .before .before .before .before .before .before .args .number) (c .before .before .before .before .before .before .before .before .before .before .before .args .list) (c .before .before .before .before .before .before .before .before .before .before .before .args .position) (omega (arith, c .before .before .before .before .before .before .before .before .before .before .before .fits .number)) (omega (arith, c .before .before .before .before .before .before .before .before .before .before .before .fits .list)) (omega (arith, c .before .before .before .before .before .before .before .before .before .before .before .fits .position)) (c .before .before .before .before .before .before .before .before .before .before .before .pre)) (c .before .before .before .before .before .before .before .put-word .ensures)) (c .before .before .before .put-ended .ensures))
+
+put-ended-requires-3 : tie.Need-put-ended-requires-3
+unfolding refusalText
+put-ended-requires-3 c κs = last-room (left-more (left-more (left-first (refusal-room _ (c .before .before .before .before .before .before .before .before .before .before .before .before .before .before .before .args .number) (c .before .before .before .before .before .before .before .before .before .before .before .before .before .before .before .args .list) (c .before .before .before .before .before .before .before .before .before .before .before .before .before .before .before .args .position) (omega (arith, c .before .before .before .before .before .before .before .before .before .before .before .before .before .before .before .fits .number)) (omega (arith, c .before .before .before .before .before .before .before .before .before .before .before .before .before .before .before .fits .list)) (omega (arith, c .before .before .before .before .before .before .before .before .before .before .before .before .before .before .before .fits .position)) (c .before .before .before .before .before .before .before .before .before .before .before .before .before .before .before .pre)) (c .before .before .before .before .before .before .before .before .before .before .before .put-word .ensures)) (c .before .before .before .before .before .before .before .put-ended .ensures)) (c .before .before .before .put-ended2 .ensures))
+
+same-length : tie.Need-same-length
+same-length c = search needs
+
+returns : tie.Need-returns
+unfolding refusalText
+returns c = left-last (left-more (left-more (left-first (refusal-room _ (c .before .before .before .before .before .before .before .before .before .before .before .before .before .before .before .before .before .before .args .number) (c .before .before .before .before .before .before .before .before .before .before .before .before .before .before .before .before .before .before .args .list) (c .before .before .before .before .before .before .before .before .before .before .before .before .before .before .before .before .before .before .args .position) (omega (arith, c .before .before .before .before .before .before .before .before .before .before .before .before .before .before .before .before .before .before .fits .number)) (omega (arith, c .before .before .before .before .before .before .before .before .before .before .before .before .before .before .before .before .before .before .fits .list)) (omega (arith, c .before .before .before .before .before .before .before .before .before .before .before .before .before .before .before .before .before .before .fits .position)) (c .before .before .before .before .before .before .before .before .before .before .before .before .before .before .before .before .before .before .pre)) (c .before .before .before .before .before .before .before .before .before .before .before .before .before .before .put-word .ensures)) (c .before .before .before .before .before .before .before .before .before .before .put-ended .ensures)) (c .before .before .before .before .before .before .put-ended2 .ensures)) (c .before .before .put-ended3 .ensures)
+
+pub put-refusal-spec : {M : Type 1} → statement M
+put-refusal-spec =
+    tie.close
+    (tie.spec
+    slice-aggregate-put-word
+    put-word-requires
+    put-ended-requires
+    put-ended-requires-2
+    put-ended-requires-3
+    same-length
+    returns)

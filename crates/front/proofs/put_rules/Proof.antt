@@ -1,0 +1,72 @@
+-- `put_rules` meets its contract. The loop's invariant: the lines from rule i on are still to be put.
+use Prim.Native.Nat.{_-_, _≤_}
+use native.Mathlib.Nat.{sub-zero}
+use borrow.Author.Needs.{needs}
+use Rattle.dossier.specs.Bytes.{records}
+use Rattle.front.proofs.Putting.{Left, left-all, left-first, left-more, left-last, left-none, first-room, left-room, last-room}
+use Rattle.front.proofs.Lines.{linesFrom, lines-first, lines-none, rules-lines}
+use Rattle.front.proofs.put_rules.Statement.{statement}
+use Rattle.front.proofs.put_rules.Tie as tie
+
+abbrev Inv-loop : tie.InvT-loop
+Inv-loop out₀ rules count named to₀ i₀ out to i =
+    (i ≤ records rules) × Left out₀ to₀ (linesFrom rules 0 (records rules)) out to (linesFrom rules i (records rules - i))
+
+abbrev μ-loop : tie.MeasureT-loop
+μ-loop out₀ rules count named to₀ i₀ out to i = records rules - i
+
+slice-aggregate-put-word : tie.Need-slice-aggregate-put-word Inv-loop μ-loop
+slice-aggregate-put-word c = search needs
+
+put-word-requires : tie.Need-put-word-requires Inv-loop μ-loop
+put-word-requires c κs = first-room _ (rw (rules-lines _) at (c .before .before .before .before .pre))
+
+put-ended-requires : tie.Need-put-ended-requires Inv-loop μ-loop
+put-ended-requires c κs = left-room _ (left-first (rw (rules-lines _) at (c .before .before .before .before .before .before .before .before .pre)) (c .before .before .before .put-word .ensures))
+
+loop-holds : tie.Need-loop-holds Inv-loop μ-loop
+loop-holds c = (search needs, rw (sub-zero _) (left-all (last-room (left-more (left-first (rw (rules-lines _) at (c .before .before .before .before .before .before .before .before .before .before .before .pre)) (c .before .before .before .before .before .before .put-word .ensures)) (c .before .before .put-ended .ensures)))))
+
+put-rule-requires : tie.Need-put-rule-requires Inv-loop μ-loop
+put-rule-requires c κs = (
+  search needs,
+  left-room _ (rw (lines-first _ _ _ (c .before .loop-test .taken)) at (c .before .before .loop .inv .1)),
+)
+
+add-i : tie.Need-add-i Inv-loop μ-loop
+add-i c = search needs
+
+loop-less : tie.Need-loop-less Inv-loop μ-loop
+loop-less c = search needs
+
+loop-again : tie.Need-loop-again Inv-loop μ-loop
+loop-again c = (
+  search needs,
+  left-more (rw (lines-first _ _ _ (c .before .before .before .before .loop-test .taken)) at (c .before .before .before .before .before .loop .inv .1)) (c .before .before .put-rule .ensures),
+)
+
+same-length : tie.Need-same-length Inv-loop μ-loop
+same-length c = search needs
+
+returns : tie.Need-returns Inv-loop μ-loop
+returns c =
+    rw (rules-lines _)
+    (left-last (left-more (left-first (rw (rules-lines _) at (c .before .before .before .before .before .before .before .before .before .before .before .before .before .pre)) (c .before .before .before .before .before .before .before .before .put-word .ensures)) (c .before .before .before .before .put-ended .ensures))
+    (left-none (rw (lines-none _ _ _ (c .loop-test .left)) at (c .before .loop .inv .1))))
+
+pub put-rules-spec : {M : Type 1} → statement M
+put-rules-spec =
+    tie.close
+    (tie.spec
+    Inv-loop
+    μ-loop
+    slice-aggregate-put-word
+    put-word-requires
+    put-ended-requires
+    loop-holds
+    put-rule-requires
+    add-i
+    loop-less
+    loop-again
+    same-length
+    returns)

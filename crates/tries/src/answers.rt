@@ -1,0 +1,89 @@
+// What a marking answers, by the definition alone: its rules are listed, and the first that applies to an element decides it.
+
+// The effect of the first of an element's own rules that applies to the element itself, or to one below it; 2 where none does.
+fn own_effect(mark: u8, decision: u8, itself: bool, below: bool) -> u8 {
+    if mark == 0 {
+        return 2;
+    }
+    if itself {
+        return decision;
+    }
+    if mark == 1 {
+        return 2;
+    }
+    if below {
+        if mark == 2 {
+            return decision;
+        }
+        return 1 - decision % 2;
+    }
+    2
+}
+
+// The effect of the first listed rule that applies to element i, or 2.
+fn answer(
+    covers: &[u8; 64],
+    order: &[u8; 8],
+    decisions: &[u8; 8],
+    marks: &[u8; 8],
+    n: usize,
+    i: usize,
+) -> u8 {
+    let mut k: usize = 0;
+    while k < n {
+        let q = wide(order[k % 8]) % 8;
+        let effect = own_effect(marks[q], decisions[q], q == i, covers[q * 8 + i % 8] == 1);
+        if effect < 2 {
+            return effect;
+        }
+        k += 1;
+    }
+    2
+}
+
+// What `first_wrong` replies where every element is answered as it is set.
+pub const RIGHT: usize = 99;
+
+// The first element that is answered otherwise than it is set, times 4, plus its answer.
+pub fn first_wrong(
+    covers: &[u8; 64],
+    order: &[u8; 8],
+    decisions: &[u8; 8],
+    marks: &[u8; 8],
+    n: usize,
+) -> usize {
+    let mut i: usize = 0;
+    while i < n {
+        let given = answer(covers, order, decisions, marks, n, i);
+        if given != decisions[i % 8] {
+            return i % 8 * 4 + wide(given) % 4;
+        }
+        i += 1;
+    }
+    RIGHT
+}
+
+// How many rules a marking lists.
+pub fn count(marks: &[u8; 8], n: usize) -> usize {
+    let mut sum: usize = 0;
+    let mut i: usize = 0;
+    while i < n {
+        sum = sum % 16 + rules(marks[i % 8]) % 4;
+        i += 1;
+    }
+    sum
+}
+
+fn rules(mark: u8) -> usize {
+    if mark == 0 {
+        return 0;
+    }
+    if mark == 3 {
+        return 2;
+    }
+    1
+}
+
+fn wide(x: u8) -> usize {
+    x as usize
+}

@@ -1,0 +1,238 @@
+// The independent second program. For every dossier of up to seven elements it tries all markings by the definition alone
+// (list the rules, decide every element by the first that applies, count), finds the least count and the first least marking,
+// and holds the library's folder and judge to them. It shares nothing with the library but the layout of the bytes.
+mod answers;
+mod library;
+mod tree;
+mod turns;
+
+// At seven elements every 61st marking is judged, counted on from dossier to dossier, so that every mark comes up everywhere.
+const SIZE: usize = 7;
+
+const STRIDE: u64 = 61;
+
+// The least count of a dossier, and the first right marking that has it.
+struct Best {
+    count: usize,
+    marks: [u8; 8],
+}
+
+// What was tried of one size.
+struct Tally {
+    dossiers: u64,
+    counts: u64,
+    folded_otherwise: u64,
+    markings: u64,
+    judged: u64,
+    judged_otherwise: u64,
+}
+
+fn more(a: u64, b: u64) -> u64 {
+    std::num::wrapping_add_u64(a, b)
+}
+
+fn one_unless(fine: bool) -> u64 {
+    if fine { 0 } else { 1 }
+}
+
+// Tries every marking, in their order.
+fn best_of(covers: &[u8; 64], order: &[u8; 8], decisions: &[u8; 8], n: usize) -> Best {
+    let mut least: usize = 99;
+    let mut first = [0u8; 8];
+    let mut marks = [0u8; 8];
+    let mut left: usize = 65536;
+    while left > 0 {
+        let count = answers::count(&marks, n);
+        if count < least {
+            if answers::first_wrong(covers, order, decisions, &marks, n) == answers::RIGHT {
+                least = count;
+                first = marks;
+            }
+        }
+        let next = turns::next_digits(marks, n, 4);
+        if next.done {
+            return Best {
+                count: least,
+                marks: first,
+            };
+        }
+        marks = next.row;
+        left -= 1;
+    }
+    Best {
+        count: least,
+        marks: first,
+    }
+}
+
+// Whether the folder turns a dossier whose marks are all others into the best marking, and the judge says that it is least.
+fn folds_one(depths: [u8; 8], decisions: [u8; 8], n: usize, best: Best) -> bool {
+    let marks = best.marks;
+    let wanted = library::bytes_of(depths, decisions, marks, n);
+    let found = library::bytes_of(depths, decisions, library::other_marks(marks), n);
+    if library::folds_so(found, wanted, n, best.count) {
+        return library::judges_so(wanted, n, best.count, answers::RIGHT, best.count);
+    }
+    false
+}
+
+// The tally after one dossier more.
+fn folded(tally: Tally, count: usize, fine: bool) -> Tally {
+    Tally {
+        dossiers: more(tally.dossiers, 1),
+        counts: more(tally.counts, count as u64),
+        folded_otherwise: more(tally.folded_otherwise, one_unless(fine)),
+        markings: tally.markings,
+        judged: tally.judged,
+        judged_otherwise: tally.judged_otherwise,
+    }
+}
+
+// Whether the judge says of one marking what is so.
+fn judges_one(
+    covers: &[u8; 64],
+    order: &[u8; 8],
+    depths: [u8; 8],
+    decisions: [u8; 8],
+    marks: [u8; 8],
+    n: usize,
+    least: usize,
+) -> bool {
+    let count = answers::count(&marks, n);
+    let wrong = answers::first_wrong(covers, order, &decisions, &marks, n);
+    let d = library::bytes_of(depths, decisions, marks, n);
+    library::judges_so(d, n, count, wrong, least)
+}
+
+// Whether the marking of this number is judged.
+fn due(number: u64, n: usize) -> bool {
+    if n < SIZE {
+        return true;
+    }
+    number % STRIDE == 0
+}
+
+// The tally after one marking more, which was not judged.
+fn passed(tally: Tally) -> Tally {
+    Tally {
+        dossiers: tally.dossiers,
+        counts: tally.counts,
+        folded_otherwise: tally.folded_otherwise,
+        markings: more(tally.markings, 1),
+        judged: tally.judged,
+        judged_otherwise: tally.judged_otherwise,
+    }
+}
+
+// The tally after one marking more, which was judged.
+fn judged(tally: Tally, fine: bool) -> Tally {
+    Tally {
+        dossiers: tally.dossiers,
+        counts: tally.counts,
+        folded_otherwise: tally.folded_otherwise,
+        markings: more(tally.markings, 1),
+        judged: more(tally.judged, 1),
+        judged_otherwise: more(tally.judged_otherwise, one_unless(fine)),
+    }
+}
+
+// Holds the judge to the markings of a dossier.
+fn judge_all(
+    covers: &[u8; 64],
+    order: &[u8; 8],
+    depths: [u8; 8],
+    decisions: [u8; 8],
+    n: usize,
+    least: usize,
+    tally: Tally,
+) -> Tally {
+    let mut sum = tally;
+    let mut marks = [0u8; 8];
+    let mut left: usize = 65536;
+    while left > 0 {
+        if due(sum.markings, n) {
+            sum = judged(
+                sum,
+                judges_one(covers, order, depths, decisions, marks, n, least),
+            );
+        } else {
+            sum = passed(sum);
+        }
+        let next = turns::next_digits(marks, n, 4);
+        if next.done {
+            return sum;
+        }
+        marks = next.row;
+        left -= 1;
+    }
+    sum
+}
+
+// Every choice of decisions over one tree.
+fn try_tree(depths: [u8; 8], n: usize, tally: Tally) -> Tally {
+    let covers = tree::covers_of(depths, n);
+    let order = tree::order_of(&covers, n);
+    let mut sum = tally;
+    let mut decisions = [0u8; 8];
+    let mut left: usize = 256;
+    while left > 0 {
+        let best = best_of(&covers, &order, &decisions, n);
+        sum = folded(sum, best.count, folds_one(depths, decisions, n, best));
+        sum = judge_all(&covers, &order, depths, decisions, n, best.count, sum);
+        let next = turns::next_digits(decisions, n, 2);
+        if next.done {
+            return sum;
+        }
+        decisions = next.row;
+        left -= 1;
+    }
+    sum
+}
+
+// Every tree of n elements.
+fn try_size(n: usize) -> Tally {
+    let mut depths = turns::first_depths();
+    let mut sum = Tally {
+        dossiers: 0,
+        counts: 0,
+        folded_otherwise: 0,
+        markings: 0,
+        judged: 0,
+        judged_otherwise: 0,
+    };
+    let mut left: usize = 1024;
+    while left > 0 {
+        sum = try_tree(depths, n, sum);
+        let next = turns::next_depths(depths, n);
+        if next.done {
+            return sum;
+        }
+        depths = next.row;
+        left -= 1;
+    }
+    sum
+}
+
+// One line: what was tried of this size.
+fn say(n: usize, tally: Tally) {
+    io::print_decimal(1, n as u64);
+    io::write_all(1, b" elements: ");
+    io::print_decimal(1, tally.dossiers);
+    io::write_all(1, b" dossiers, least counts together ");
+    io::print_decimal(1, tally.counts);
+    io::write_all(1, b", folded otherwise ");
+    io::print_decimal(1, tally.folded_otherwise);
+    io::write_all(1, b"; ");
+    io::print_decimal(1, tally.judged);
+    io::write_all(1, b" markings judged, otherwise ");
+    io::print_decimal(1, tally.judged_otherwise);
+    io::write_all(1, b"\n");
+}
+
+fn main() {
+    let mut n: usize = 1;
+    while n <= SIZE {
+        say(n, try_size(n));
+        n += 1;
+    }
+}

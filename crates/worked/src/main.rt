@@ -1,0 +1,193 @@
+// The cases that were worked by hand, run through the library: a line for each says what was given and what came out.
+mod making;
+mod saying;
+
+use dossier::Reply;
+use making::front;
+use marks::Walk;
+use saying::say;
+
+// What the walk answers, record after record.
+fn say_walk(d: &[u8]) {
+    let mut walk = Walk::fresh();
+    let mut i: usize = 0;
+    while i < d.len() / 8 {
+        let at = i * 8;
+        let stepped = walk.step(&d[at..at + 8]);
+        let answer = stepped.answer;
+        let next = stepped.walk;
+        say(b" ");
+        saying::say_answer(answer);
+        walk = next;
+        i += 1;
+    }
+}
+
+// The rules that a dossier's marks list; the marks that are read back from them are left in `back`.
+fn say_list(d: &[u8], rules: &mut [u8], back: &mut [u8]) {
+    match listing::list(d, rules) {
+        Reply::Count(n) => say_listed(rules, n, back),
+        Reply::Refused(f) => saying::say_refusal(f),
+    }
+}
+
+fn say_listed(rules: &[u8], n: usize, back: &mut [u8]) {
+    let listed = front(rules, n % 9 * 8);
+    saying::say_rules(listed);
+    listing::read_back(back, listed);
+}
+
+// The marks that the folder writes, and their count.
+fn say_fold(d: &mut [u8]) {
+    match least::fold(d) {
+        Reply::Count(n) => say_folded(d, n),
+        Reply::Refused(f) => saying::say_refusal(f),
+    }
+}
+
+fn say_folded(d: &[u8], n: usize) {
+    saying::say_marks(d);
+    say(b"; rules ");
+    saying::say_number(n);
+}
+
+// A case: the elements, the folder's marks and count, the rules that they list, the marks read back from these, and the walk's answers.
+fn say_case(name: &[u8], line: &[u8], d: &mut [u8], back: &mut [u8], rules: &mut [u8]) {
+    say(name);
+    say(b", ");
+    say(line);
+    say(b": folded");
+    say_fold(d);
+    say_list(d, rules, back);
+    say(b"; read back");
+    saying::say_marks(back);
+    say(b"; walked");
+    say_walk(d);
+    say(b"\n");
+}
+
+fn case(name: &[u8], line: &[u8]) {
+    let n = making::size(line);
+    let mut d = making::elements(line);
+    let mut back = making::elements(line);
+    let mut rules = [0u8; 64];
+    say_case(name, line, &mut d[..n], &mut back[..n], &mut rules);
+}
+
+// A verdict on the elements of a case with other marks.
+fn say_judged(name: &[u8], marks: &[u8], d: &mut [u8]) {
+    making::put_marks(d, marks);
+    say(name);
+    say(b" with ");
+    say(marks);
+    say(b": ");
+    saying::say_judgement(least::judge(d));
+    say(b"\n");
+}
+
+fn judged(name: &[u8], line: &[u8], marks: &[u8]) {
+    let n = making::size(line);
+    let mut d = making::elements(line);
+    say_judged(name, marks, &mut d[..n]);
+}
+
+// What the reader says of bytes.
+fn say_read(name: &[u8], d: &[u8]) {
+    say(name);
+    say(b": ");
+    saying::say_read(dossier::read(d));
+    say(b"\n");
+}
+
+fn read_line(line: &[u8]) {
+    let n = making::size(line);
+    let d = making::elements(line);
+    say_read(line, front(&d, n));
+}
+
+fn say_chains(d: &mut [u8]) {
+    making::put_chain(d);
+    say_read(b"depths 0 to 63", front(d, 512));
+    say_read(b"depths 0 to 64", front(d, 520));
+}
+
+fn chains() {
+    let mut d = [0u8; 520];
+    say_chains(&mut d);
+}
+
+fn say_lengths(d: &mut [u8]) {
+    making::put_flat(d);
+    say_read(b"32768 bytes", front(d, 32768));
+    say_read(b"32776 bytes", front(d, 32776));
+    say_read(b"32775 bytes", front(d, 32775));
+    say_read(b"7 bytes", front(d, 7));
+    say_read(b"0 bytes", front(d, 0));
+}
+
+fn lengths() {
+    let mut d = [0u8; 32776];
+    say_lengths(&mut d);
+}
+
+// An element decided over two lists, and by which rule.
+fn say_decided<'a>(name: &[u8], d: &[u8], house: &'a [u8], recipient: &'a [u8], combining: usize) {
+    say(name);
+    say(b", combining ");
+    saying::say_number(combining);
+    say(b": ");
+    saying::say_answer(rules::decide(d, house, recipient, combining, 1));
+    say(b" by ");
+    saying::say_rule(rules::deciding(d, house, recipient, combining, 1));
+    say(b"\n");
+}
+
+// Element 1 of case B, over a house list and a recipient's, each of one rule.
+fn decided(name: &[u8], house: [u8; 8], recipient: [u8; 8]) {
+    let b = making::elements(b"0:0 1:1 2:0");
+    let d = front(&b, 24);
+    say_decided(name, d, &house, &recipient, 0);
+    say_decided(name, d, &house, &recipient, 1);
+    say_decided(name, d, &house, &recipient, 2);
+}
+
+fn cases() {
+    case(b"A", b"0:1");
+    case(b"B", b"0:0 1:1 2:0");
+    case(b"C", b"0:1 1:0 2:0 1:1 1:1 1:1");
+    case(b"D", b"0:1 1:0");
+    case(b"E", b"0:1 1:1 2:0 2:0 1:0 1:0");
+    case(b"F", b"0:1 1:0 1:0");
+    case(b"G", b"0:0 1:0 1:1");
+    case(b"H", b"0:0 1:1 2:0 3:1");
+}
+
+fn verdicts() {
+    judged(b"D", b"0:1 1:0", b"+ -");
+    judged(b"D", b"0:1 1:0", b"\xC2\xB1 n");
+    judged(b"D", b"0:1 1:0", b"+ n");
+    judged(b"B", b"0:0 1:1 2:0", b"+ + -");
+    judged(b"A", b"0:1", b"n");
+    judged(b"A", b"0:1", b"\xC2\xB1");
+}
+
+fn main() {
+    cases();
+    verdicts();
+    read_line(b"0:0 2:0");
+    read_line(b"0:0 0:0");
+    chains();
+    lengths();
+    let deny_all = making::rule(0, 0, 1);
+    let permit_self = making::rule(1, 1, 0);
+    decided(
+        b"element 1 of B, house 0 deny all, recipient 1 permit self",
+        deny_all,
+        permit_self,
+    );
+    decided(
+        b"element 1 of B, house 1 permit self, recipient 0 deny all",
+        permit_self,
+        deny_all,
+    );
+}

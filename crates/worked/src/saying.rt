@@ -1,0 +1,143 @@
+// What is printed, in words.
+use dossier::Answer;
+use dossier::Decision;
+use dossier::Refusal;
+use dossier::Reply;
+use least::Judgement;
+use least::Report;
+use least::Verdict;
+use libc::STDOUT_FILENO;
+
+pub fn say(words: &[u8]) {
+    io::write_all(STDOUT_FILENO, words);
+}
+
+pub fn say_number(n: usize) {
+    io::print_decimal(STDOUT_FILENO, n as u64);
+}
+
+fn wide(x: u8) -> usize {
+    x as usize
+}
+
+pub fn say_refusal(f: Refusal) {
+    say(b"refused ");
+    say_number(f.number as usize);
+    say(b" ");
+    say_number(f.list as usize);
+    say(b" ");
+    say_number(f.position);
+}
+
+// A reply that counts elements.
+pub fn say_read(reply: Reply) {
+    match reply {
+        Reply::Count(n) => {
+            say_number(n);
+            say(b" elements");
+        }
+        Reply::Refused(f) => say_refusal(f),
+    }
+}
+
+pub fn say_decision(answer: Decision) {
+    match answer {
+        Decision::Deny => say(b"deny"),
+        Decision::Permit => say(b"permit"),
+        Decision::None => say(b"none"),
+    }
+}
+
+pub fn say_answer(answer: Answer) {
+    match answer {
+        Answer::Given(decision) => say_decision(decision),
+        Answer::Refused(f) => say_refusal(f),
+    }
+}
+
+fn say_mark(mark: u8) {
+    match mark {
+        0 => say(b" n"),
+        1 => say(b" -"),
+        2 => say(b" +"),
+        _ => say(b" \xC2\xB1"),
+    }
+}
+
+// The marks of a dossier.
+pub fn say_marks(d: &[u8]) {
+    let mut i: usize = 0;
+    while i < d.len() / 8 {
+        say_mark(d[i * 8 + 2]);
+        i += 1;
+    }
+}
+
+fn say_effect(effect: u8) {
+    if effect == 1 {
+        say(b" permit");
+    } else {
+        say(b" deny");
+    }
+}
+
+fn say_reach(reach: u8) {
+    if reach == 1 {
+        say(b" all");
+    } else {
+        say(b" self");
+    }
+}
+
+// A rule by its bytes, where there are any.
+pub fn say_rule(rule: &[u8]) {
+    if rule.len() < 8 {
+        say(b"no rule");
+        return;
+    }
+    say_number(wide(rule[0]));
+    say_effect(rule[2]);
+    say_reach(rule[3]);
+}
+
+// The rules of a list, each after a comma.
+pub fn say_rules(rules: &[u8]) {
+    let mut i: usize = 0;
+    while i < rules.len() / 8 {
+        let at = i * 8;
+        say(b", ");
+        say_rule(&rules[at..]);
+        i += 1;
+    }
+}
+
+fn say_verdict(verdict: Verdict) {
+    match verdict {
+        Verdict::Least => say(b"least"),
+        Verdict::Longer(excess) => {
+            say(b"longer by ");
+            say_number(excess);
+        }
+        Verdict::Wrong(position, answer) => {
+            say(b"wrong at ");
+            say_number(position);
+            say(b", answer ");
+            say_decision(answer);
+        }
+    }
+}
+
+fn say_report(report: Report) {
+    let verdict = report.verdict;
+    say(b"rules ");
+    say_number(report.count);
+    say(b", ");
+    say_verdict(verdict);
+}
+
+pub fn say_judgement(judgement: Judgement) {
+    match judgement {
+        Judgement::Reported(report) => say_report(report),
+        Judgement::Refused(f) => say_refusal(f),
+    }
+}
