@@ -1,0 +1,222 @@
+-- Every reply that a promise allows fits its number, so that packing loses nothing. Assumes nothing.
+use mathlib.Core.Path.{_≡_, refl}
+use mathlib.Core.Bool.{Bool, true, false, cond}
+use Prim.Native.Nat.{ℕ, _*_, _≤_, _<_}
+use native.Mathlib.Omega.{arith}
+use mathlib.Core.List.{List}
+use lib.ListN.{length}
+use lib.Dec.{ltb, leb, eqb}
+use borrow.Author.Tests.{leb-false}
+use Rattle.dossier.specs.Limits.{width, deepest, mostElements}
+use Rattle.dossier.specs.Elements.{Mark, marksOf}
+use Rattle.dossier.specs.Bytes.{records, elementsOf}
+use Rattle.dossier.specs.Replies.{refusal, andThen, roomFor}
+use Rattle.dossier.specs.Reading.{faultOf, readOf}
+use Rattle.dossier.specs.Table.{Row, row-1, row-2, row-3, row-4, row-5, row-6}
+use Rattle.dossier.specs.declared.Decision.{Decision}
+use Rattle.dossier.specs.declared.Refusal.{Refusal}
+use Rattle.dossier.specs.declared.Reply.{Reply}
+use Rattle.dossier.specs.declared.Reply.the-variants.{Count, Refused}
+use Rattle.dossier.proofs.Sounds.{counted-sound, counted}
+use Rattle.dossier.proofs.Rows.{refused-row}
+use Rattle.rules.specs.ReadingRules.{readRulesOf}
+use Rattle.rules.specs.RuleTable as rule
+use Rattle.rules.specs.Deciding.{numbersOf, askedOf, answered, decideOf}
+use Rattle.rules.proofs.ListSounds as rules
+use Rattle.marks.specs.Stepping.{fieldsStep, refusedStep, acceptedStep, takeOf, Leaves, Steps}
+use Rattle.marks.specs.declared.Walk.{Walk}
+use Rattle.marks.specs.declared.Stepped.{Stepped}
+use Rattle.marks.proofs.Takes.{faultNext, takenStep}
+use Rattle.marks.proofs.Determined.{leaves?}
+use Rattle.listing.specs.Area.{listedOf, listReply}
+use Rattle.listing.specs.Back.{Told, marked, none, BackAfter, Back}
+use Rattle.listing.proofs.Costs.{elements-length, listed-most}
+use Rattle.marks.specs.Marks.{first}
+use Rattle.marks.specs.Walking.{walked}
+use Rattle.least.specs.Least.{count, Least}
+use Rattle.least.specs.Folding.{FoldedAfter, Folded}
+use Rattle.least.specs.Inner.{wrongCost}
+use Rattle.least.proofs.Folds.{first-plain, count-is, count-most}
+use Rattle.least.specs.Judging.{Holds, JudgedAfter, Judged}
+use Rattle.least.specs.declared.Verdict.{Verdict}
+use Rattle.least.specs.declared.Verdict.the-variants as verdict
+use Rattle.least.specs.declared.Judgement.{Judgement}
+use Rattle.least.specs.declared.Judgement.the-variants as judgement
+use Rattle.view.specs.View.{ViewedAfter, Views}
+use Rattle.view.proofs.Few.{view-few}
+use Rattle.capi.proofs.Told.{Small, FitsReply, FitsAnswer, FitsVerdict, FitsJudgement}
+
+-- ---- reading
+
+small : {n l p : ℕ} → n < 256 → l < 256 → p < 4294967296 → Small (record { number = n; list = l; position = p })
+small n l p = record { number = n; list = l; position = p }
+
+row-small : (d : List ℕ) {n l p : ℕ} → Row d n l p → Small (record { number = n; list = l; position = p })
+row-small d (row-1 h) = small (omega arith) (omega arith) (omega arith)
+row-small d (row-2 g h) = small (omega arith) (omega arith) (omega arith)
+row-small d (row-3 f g h) = small (omega arith) (omega arith) (omega arith)
+row-small d (row-4 i r f o) = small (omega arith) (omega arith) (omega arith)
+row-small d (row-5 i r t) = small (omega arith) (omega arith) (omega arith)
+row-small d (row-6 i r f o b) = small (omega arith) (omega arith) (omega arith)
+
+pub read-fits : (d : List ℕ) → FitsReply (readOf d)
+read-fits d = go (readOf d) refl
+  where
+    go : (r : Reply) → readOf d ≡ r → FitsReply r
+    go (Count n) e = omega (arith, counted d n e, counted-sound d n e .few)
+    go (Refused f) e = row-small d (refused-row d f .0 e)
+
+rule-small : (d : List ℕ) (list : ℕ) (rs : List ℕ) {f : Refusal} → list < 256 → rule.RuleRow d list rs f → Small f
+rule-small d list rs l (rule.row-2 h) = small (omega arith) l (omega arith)
+rule-small d list rs l (rule.row-3 g h) = small (omega arith) l (omega arith)
+rule-small d list rs l (rule.row-7 i g h k n o) = small (omega arith) l (omega arith)
+
+rules-fits : (d : List ℕ) (list : ℕ) (rs : List ℕ) → list < 256 → FitsReply (readRulesOf d list rs)
+rules-fits d list rs l = go (readRulesOf d list rs) refl
+  where
+    go : (r : Reply) → readRulesOf d list rs ≡ r → FitsReply r
+    go (Count n) e = let s = rules.count-sound d rs list n .0 e in omega (arith, s .0 .few, s .1)
+    go (Refused f) e = rule-small d list rs l (rules.refused-row d rs list f .0 e)
+
+then-fits : (a b : Reply) → FitsReply a → ((n : ℕ) → a ≡ Count n → FitsReply b) → FitsReply (andThen a b)
+then-fits (Count n) b s t = t n refl
+then-fits (Refused f) b s t = s
+
+-- how many elements a dossier has that is read
+few : (d : List ℕ) (n : ℕ) → readOf d ≡ Count n → records d ≤ mostElements
+few d n e = omega (arith, counted-sound d n e .few)
+
+-- ---- deciding
+
+numbers-fits : (n c i : ℕ) → n ≤ mostElements → FitsReply (numbersOf n c i)
+unfolding numbersOf
+numbers-fits n c i s = go (ltb 2 c) (leb n i)
+  where
+    go : (over past : Bool) → FitsReply (cond over (refusal 11 0 0) (cond past (refusal 10 0 0) (Count n)))
+    go true past = small (omega arith) (omega arith) (omega arith)
+    go false true = small (omega arith) (omega arith) (omega arith)
+    go false false = omega arith
+
+asked-fits : (d house recipient : List ℕ) (c i : ℕ) → FitsReply (askedOf d house recipient c i)
+unfolding askedOf
+asked-fits d house recipient c i =
+    then-fits (readOf d) _ (read-fits d) (λ n e.
+    then-fits (readRulesOf d 1 house) _ (rules-fits d 1 house (omega arith)) (λ k f.
+    then-fits (readRulesOf d 2 recipient) _ (rules-fits d 2 recipient (omega arith)) (λ m g. numbers-fits (records d) c i (few d n e))))
+
+answered-fits : (r : Reply) (v : Decision) → FitsReply r → FitsAnswer (answered r v)
+answered-fits (Count n) v s = tt
+answered-fits (Refused f) v s = s
+
+pub decide-fits : (d house recipient : List ℕ) (c i : ℕ) → FitsAnswer (decideOf d house recipient c i)
+unfolding decideOf
+decide-fits d house recipient c i = answered-fits (askedOf d house recipient c i) _ (asked-fits d house recipient c i)
+
+-- ---- the walk
+
+fault-small : (low high depth decision mark spare : ℕ) → faultOf low high depth decision mark spare < 256
+unfolding faultOf
+fault-small low high depth decision mark spare = go (ltb deepest depth) (ltb depth low) (ltb high depth) (ltb 1 decision) (ltb 3 mark) (ltb 0 spare)
+  where
+    go : (a b c d e f : Bool) → cond a 5 (cond b 4 (cond c 4 (cond d 6 (cond e 6 (cond f 6 0))))) < 256
+    go true b c d e f = omega arith
+    go false true c d e f = omega arith
+    go false false true d e f = omega arith
+    go false false false true e f = omega arith
+    go false false false false true f = omega arith
+    go false false false false false true = omega arith
+    go false false false false false false = omega arith
+
+take-fits : (w : Walk) (r : List ℕ) → FitsAnswer (takeOf w r .answer)
+unfolding takeOf fieldsStep refusedStep acceptedStep
+take-fits w r = go (eqb (length r) width) (leb mostElements (w .taken)) (eqb (faultNext w r) 0) refl
+  where
+    go : (whole full good : Bool) → leb mostElements (w .taken) ≡ full
+        → FitsAnswer (cond whole (cond full (refusedStep w 3 0) (cond good (takenStep w r) (refusedStep w (faultNext w r) (w .taken)))) (refusedStep w 2 0) .answer)
+    go false full good e = small (omega arith) (omega arith) (omega arith)
+    go true true good e = small (omega arith) (omega arith) (omega arith)
+    go true false true e = tt
+    go true false false e = small (fault-small _ _ _ _ _ _) (omega arith) (omega (arith, leb-false mostElements (w .taken) e))
+
+pub step-fits : (w : Walk) (r : List ℕ) (s : Stepped) → Steps w r s → FitsAnswer (s .answer)
+unfolding refusedStep
+step-fits w r s h = go (leaves? w)
+  where
+    go : Dec (Leaves w) → FitsAnswer (s .answer)
+    go (yes left) = rw (h .takes left) (take-fits w r)
+    go (no never) = rw (h .refuses never) (small (omega arith) (omega arith) (omega arith))
+
+-- ---- listing and reading back
+
+room-fits : (n : ℕ) (area : List ℕ) → n < 9223372036854775808 → FitsReply (roomFor n area)
+unfolding roomFor
+room-fits n area s = go (ltb (length area) (n * width))
+  where
+    go : (short : Bool) → FitsReply (cond short (refusal 8 0 0) (Count n))
+    go true = small (omega arith) (omega arith) (omega arith)
+    go false = s
+
+pub list-fits : (d area : List ℕ) → FitsReply (listReply d area)
+unfolding listReply
+list-fits d area =
+    then-fits (readOf d) _ (read-fits d) (λ n e. room-fits (length (listedOf d)) area (omega (arith, few d n e, listed-most d)))
+
+told-fits : (d rs : List ℕ) {reply : Reply} {new : List ℕ} → records d ≤ mostElements → Told d rs reply new → FitsReply reply
+told-fits d rs s (marked ms g) = omega arith
+told-fits d rs s (none h) = small (omega arith) (omega arith) (omega arith)
+
+then-count : (a b : Reply) (n : ℕ) → andThen a b ≡ Count n → (k : ℕ) × (a ≡ Count k)
+then-count (Count k) b n e = (k, refl)
+then-count (Refused f) b n e = let z : _≡_ {A = ℕ} 0 1 = cc in absurd (omega arith)
+
+pub back-fits : (d rs : List ℕ) (reply : Reply) (new : List ℕ) → Back d rs reply new → FitsReply reply
+back-fits d rs reply new b =
+    go (andThen (readOf d) (readRulesOf d 1 rs)) refl (then-fits (readOf d) _ (read-fits d) (λ n e. rules-fits d 1 rs (omega arith))) b
+  where
+    go : (r : Reply) → andThen (readOf d) (readRulesOf d 1 rs) ≡ r → FitsReply r → BackAfter r d rs reply new → FitsReply reply
+    go (Count n) e s b = let k = then-count (readOf d) _ n e in told-fits d rs (few d (k .0) (k .1)) b
+    go (Refused f) e s b = rw (b .0) s
+
+-- ---- folding, judging, the view
+
+-- least marks list at most a rule for each element
+least-few : (d : List ℕ) (n : ℕ) → readOf d ≡ Count n → (ms : List Mark) → Least (walked first) (elementsOf d) ms → count (elementsOf d) ms ≤ mostElements
+least-few d n e ms l =
+    let o = counted-sound d n e .order in
+    let m : length (elementsOf d) < wrongCost = omega (arith, elements-length d, few d n e) in
+    omega (
+      arith,
+      count-is first wrongCost first-plain (elementsOf d) o m ms l,
+      count-most first wrongCost first-plain (elementsOf d) o m,
+    )
+
+pub folded-fits : (d : List ℕ) (reply : Reply) (new : List ℕ) → Folded d reply new → FitsReply reply
+folded-fits d reply new f = go (readOf d) refl (read-fits d) f
+  where
+    go : (r : Reply) → readOf d ≡ r → FitsReply r → FoldedAfter r d reply new → FitsReply reply
+    go (Count n) e s f = let l = least-few d n e (f .marks) (f .folds .least) in rw (f .counted) (omega arith)
+    go (Refused g) e s f = rw (f .0) s
+
+-- what is judged is the count of the rules that are listed
+verdict-fits : (d : List ℕ) (n : ℕ) → readOf d ≡ Count n → (v : Verdict) → Holds (walked first) (elementsOf d) (marksOf (elementsOf d)) v → FitsVerdict v
+unfolding listedOf
+verdict-fits d n e verdict.Least h = tt
+verdict-fits d n e (verdict.Longer k) h = omega (arith, few d n e, listed-most d, h .excess)
+verdict-fits d n e (verdict.Wrong i a) h = omega (arith, few d n e, elements-length d, h .there)
+
+pub judged-fits : (d : List ℕ) (j : Judgement) → Judged d j → FitsJudgement j
+unfolding listedOf
+judged-fits d j h = go (readOf d) refl (read-fits d) j h
+  where
+    go : (r : Reply) → readOf d ≡ r → FitsReply r → (j : Judgement) → JudgedAfter r d j → FitsJudgement j
+    go (Count n) e s (judgement.Reported q) h = (omega (arith, few d n e, listed-most d, h .counted), verdict-fits d n e (q .verdict) (h .holds))
+    go (Count n) e s (judgement.Refused f) h = absurd h
+    go (Refused g) e s (judgement.Reported q) h = absurd h
+    go (Refused g) e s (judgement.Refused f) h = rw h s
+
+pub views-fits : (d area : List ℕ) (reply : Reply) (new : List ℕ) → Views d area reply new → FitsReply reply
+views-fits d area reply new v = go (readOf d) refl (read-fits d) v
+  where
+    go : (r : Reply) → readOf d ≡ r → FitsReply r → ViewedAfter r d area reply new → FitsReply reply
+    go (Count n) e s v = rw (v .replied) (room-fits (length (v .shown)) area (omega (arith, few d n e, view-few d (v .view))))
+    go (Refused g) e s v = rw (v .0) s

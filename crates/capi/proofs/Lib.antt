@@ -1,0 +1,4 @@
+pub mod Told
+pub mod Fitting
+pub mod Parts
+pub mod Determined

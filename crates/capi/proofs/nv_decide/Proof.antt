@@ -1,0 +1,18 @@
+-- `capi::nv_decide` meets its contract. Assumes nothing.
+use mathlib.Core.Path.{ap, _∙_}
+use Rattle.capi.specs.Packed.{packedAnswer}
+use borrow.Author.Needs.{needs}
+use Rattle.capi.proofs.nv_decide.Statement.{statement}
+use Rattle.capi.proofs.nv_decide.Tie as tie
+
+decide-requires : tie.Need-decide-requires
+decide-requires c κs = search needs
+
+pack-answer-requires : tie.Need-pack-answer-requires
+pack-answer-requires c κs = search needs
+
+returns : tie.Need-returns
+returns c = c .pack-answer .ensures ∙ ap packedAnswer (c .before .decide .ensures)
+
+pub nv-decide-spec : {M : Type 1} → statement M
+nv-decide-spec = tie.close (tie.spec decide-requires pack-answer-requires returns)

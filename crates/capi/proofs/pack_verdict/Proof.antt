@@ -1,0 +1,65 @@
+-- `capi::pack_verdict` meets its contract: each arm is given which verdict it is. Assumes nothing.
+use mathlib.Core.Path.{sym, ap}
+use native.Mathlib.Omega.{arith}
+use Rattle.capi.specs.Packed.{packedVerdict}
+use Rattle.capi.proofs.Told.{decision-small}
+use borrow.Author.Needs.{needs}
+use Rattle.capi.proofs.pack_verdict.Statement.{statement}
+use Rattle.capi.proofs.pack_verdict.Tie as tie
+
+enum-told : tie.Need-enum-told
+enum-told c = search needs
+
+enum-known-verdict : tie.Need-enum-known-verdict
+enum-known-verdict c = search needs
+
+mul-result : tie.Need-mul-result
+mul-result c = search needs
+
+add-result : tie.Need-add-result
+add-result c = search needs
+
+enum-known-verdict-2 : tie.Need-enum-known-verdict-2
+enum-known-verdict-2 c = search needs
+
+mul-result-2 : tie.Need-mul-result-2
+mul-result-2 c = search needs
+
+add-result-2 : tie.Need-add-result-2
+add-result-2 c = search needs
+
+pack-decision-requires : tie.Need-pack-decision-requires
+pack-decision-requires c κs = search needs
+
+mul-result-3 : tie.Need-mul-result-3
+mul-result-3 c = omega (arith, decision-small (c .before .before .verdict2 .given .0 .1 .0))
+
+add-result-3 : tie.Need-add-result-3
+add-result-3 c = omega (arith, decision-small (c .before .before .verdict2 .given .0 .1 .0))
+
+returns : tie.Need-returns
+returns c = search needs
+
+returns-2 : tie.Need-returns-2
+returns-2 c = sym (ap packedVerdict (c .before .verdict .given .1))
+
+returns-3 : tie.Need-returns-3
+returns-3 c = rw (c .pack-decision .ensures, c .before .before .verdict2 .given .1)
+
+pub pack-verdict-spec : {M : Type 1} → statement M
+pack-verdict-spec =
+    tie.close
+    (tie.spec
+    enum-told
+    enum-known-verdict
+    mul-result
+    add-result
+    enum-known-verdict-2
+    mul-result-2
+    add-result-2
+    pack-decision-requires
+    mul-result-3
+    add-result-3
+    returns
+    returns-2
+    returns-3)
