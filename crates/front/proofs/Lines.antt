@@ -4,6 +4,8 @@ use Prim.Native.Nat.{ℕ, zero, suc, _+_, _*_, _-_, _≤_, _<_}
 use native.Mathlib.Omega.{arith}
 use mathlib.Core.List.{List, [], _++_}
 use lib.ListN.{length, length-append}
+use mir.Syntax.{w8, w64}
+use mir.Val.{Fits}
 use Rattle.dossier.specs.Limits.{mostElements}
 use Rattle.dossier.specs.Elements.{Effect, deny, permit, effectOf}
 use Rattle.dossier.specs.Bytes.{records, byteOf, run, joined}
@@ -57,13 +59,13 @@ reach-most : (r : Reach) → length (reachWord r) ≤ 6
 reach-most self = omega arith
 reach-most all = omega arith
 
-pub refusal-room : (area : List ℕ) (number list position : ℕ) → number < 18446744073709551616 → list < 18446744073709551616 → position < 18446744073709551616
-    → mostText ≤ length area → Room area 0 (refusalWith number list position)
+pub refusal-room : {area : List ℕ} {number list position : ℕ} → Fits w8 number → Fits w8 list → Fits w64 position → mostText ≤ length area
+    → Room area 0 (refusalWith number list position)
 unfolding refusalText
-refusal-room area number list position a b c room = record {
+refusal-room {area} {number} {list} {position} a b c room = record {
   enough =
       simp length-append
-      (omega (arith, decimal-most 19 number (omega arith), decimal-most 19 list (omega arith), decimal-most 19 position (omega arith)));
+      (omega (arith, decimal-most 2 number (omega arith), decimal-most 2 list (omega arith), decimal-most 19 position (omega arith)));
 }
 
 lines-most : (rs : List ℕ) (i n : ℕ) → ((k : ℕ) → k < i + n → targetAt rs k < 10000) → length (linesFrom rs i n) ≤ 17 * n

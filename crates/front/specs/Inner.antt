@@ -6,7 +6,10 @@ use lib.ListN.{length, take}
 use lib.Seq.{sets}
 use Rattle.dossier.specs.Limits.{mostElements}
 use Rattle.dossier.specs.Elements.{effectOf}
+use Rattle.dossier.specs.Reading.{Sound}
 use Rattle.rules.specs.Rules.{reachOf}
+use Rattle.listing.specs.Area.{listedOf}
+use Rattle.front.specs.Standing.{mostBytes}
 use Rattle.front.specs.Printing.{decimal, effectWord, reachWord, refusalText, Printed}
 
 -- an area has room for a text from `at` on
@@ -30,6 +33,16 @@ refusalWith number list position = refusalText (record { number = number; list =
 -- the most bytes that are printed: a line has at most 17, and the line before them or a refusal has fewer than 80
 abbrev pub mostText : ℕ
 mostText = mostElements * 17 + 80
+
+-- the areas for rules and text are large enough
+pub record Areas (rules out : List ℕ) : Type 0 where
+  pub wide : mostBytes ≤ length rules
+  pub room : mostText ≤ length out
+
+-- a dossier is sound, and its marks list at most as many rules as a dossier may have elements
+pub record Short (d : List ℕ) : Type 0 where
+  pub sound : Sound d
+  pub few : length (listedOf d) ≤ mostElements
 
 -- the first `to` bytes of the area are what is printed of the dossier
 pub record Answered (d out : List ℕ) (to : ℕ) : Type 0 where

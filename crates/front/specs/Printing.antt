@@ -2,7 +2,7 @@
 use mathlib.Core.Path.{_≡_}
 use Prim.Native.Nat.{ℕ, zero, suc, _/_}
 use Prim.Native.Char.{code}
-use Prim.Native.String.{String, [] as none, _∷_ as _then_}
+use Prim.Native.String.{String, [] as empty, _∷_ as _then_}
 use mathlib.Core.Bool.{cond}
 use mathlib.Core.List.{List, [], _∷_, _++_}
 use lib.ListN.{length}
@@ -19,7 +19,7 @@ use Rattle.least.specs.Folding.{Folded}
 
 -- a text as bytes
 abbrev pub ascii : String → List ℕ
-ascii none = []
+ascii empty = []
 ascii (c then s) = code c ∷ ascii s
 
 -- how many decimal digits n has, looking at no more than `most` after the first

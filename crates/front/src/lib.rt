@@ -8,24 +8,23 @@ ghost use mathlib.Core.Path.{_≡_};
 ghost use mathlib.Core.List.{[], _∷_, _++_};
 ghost use Prim.Native.Nat.{_+_, _*_, _%_, _≤_, _<_};
 ghost use lib.ListN.{length};
-ghost use Rattle.dossier.specs.Limits.{width, mostElements};
+ghost use Rattle.dossier.specs.Limits.{width};
 ghost use Rattle.dossier.specs.Elements.{effectOf};
 ghost use Rattle.dossier.specs.Bytes.{records};
-ghost use Rattle.dossier.specs.Reading.{Sound};
 ghost use Rattle.rules.specs.Rules.{reachOf, ruleAt, rulesOf};
 ghost use Rattle.listing.specs.Area.{listedOf};
 ghost use Rattle.front.specs.Standing.{mostBytes, standsFor};
 ghost use Rattle.front.specs.Printing.{decimal, effectWord, reachWord, lineOf, rulesText};
-ghost use Rattle.front.specs.Inner.{Room, Puts, lineWith, refusalWith, mostText, Answered};
+ghost use Rattle.front.specs.Inner.{Room, Puts, lineWith, refusalWith, mostText, Areas, Short, Answered};
 
-// The most bytes of a dossier, which are kept; and what a longer input stands in.
+// The most bytes of a dossier; the least length that stands for a longer input; and one that no such length passes.
 const MOST_BYTES: usize = MOST_ELEMENTS * WIDTH;
 
 const TOO_LONG: usize = MOST_BYTES + WIDTH;
 
 const KEPT: usize = TOO_LONG + WIDTH;
 
-// The most bytes that are printed.
+// The most bytes that are printed: 17 for each rule, and the line before them.
 const MOST_TEXT: usize = MOST_ELEMENTS * 17 + 80;
 
 // What stands for more bytes than a dossier may have.
@@ -35,7 +34,7 @@ fn too_many(total: usize, more: usize) -> usize
     TOO_LONG + (total % WIDTH + more % WIDTH) % WIDTH
 }
 
-// What stands for a total of bytes, of which `total` came so far, or stands for those that did, and `more` came now.
+// What stands for all bytes so far and `more` after them, where `total` is their number or stands for it.
 pub fn counted_on(total: usize, more: usize) -> usize
     ensures { λ r. ⌜ r ≡ standsFor (total + more) ⌝ }
 {
@@ -54,7 +53,8 @@ fn past(scratch: &mut [u8]) -> usize {
     io::count(got, scratch)
 }
 
-// Reads on to the end of the input, of which the most bytes are kept already: what stands for the whole.
+// Reads on to the end of the input, of which the most bytes are kept already: what stands for the whole. The turns are
+// counted only so that the loop ends.
 fn rest(scratch: &mut [u8]) -> usize
     ensures { λ r. ⌜ r < mostBytes + 2 * width ⌝ }
 {
@@ -73,11 +73,9 @@ fn rest(scratch: &mut [u8]) -> usize
 
 // Reads the whole input, keeping its front: how many of the kept bytes stand for it.
 fn gather(kept: &mut [u8], scratch: &mut [u8]) -> usize
+    requires { ⌜ mostBytes + 2 * width ≤ length (now kept) ⌝ }
     ensures { λ r. ⌜ r ≤ length (now (kept .exit)) ⌝ }
 {
-    if kept.len() < KEPT {
-        return 0;
-    }
     let n = io::read_full(STDIN_FILENO, &mut kept[..MOST_BYTES]);
     if n < MOST_BYTES {
         return n;
@@ -118,6 +116,7 @@ fn put_ended(out: &mut [u8], at: usize, n: usize, end: u8) -> usize
     to + 1
 }
 
+// Puts the word of an effect.
 fn put_effect(out: &mut [u8], at: usize, effect: u8) -> usize
     requires { ⌜ Room (now out) at (effectWord (effectOf effect)) ⌝ }
     ensures { λ r. ⌜ Puts (now (out .entry)) at (effectWord (effectOf effect)) (now (out .exit)) r ⌝ }
@@ -128,6 +127,7 @@ fn put_effect(out: &mut [u8], at: usize, effect: u8) -> usize
     put_word(out, at, b" permit")
 }
 
+// Puts the word of a reach, which ends a line.
 fn put_reach(out: &mut [u8], at: usize, reach: u8) -> usize
     requires { ⌜ Room (now out) at (reachWord (reachOf reach)) ⌝ }
     ensures { λ r. ⌜ Puts (now (out .entry)) at (reachWord (reachOf reach)) (now (out .exit)) r ⌝ }
@@ -148,6 +148,7 @@ fn put_line(out: &mut [u8], at: usize, target: usize, effect: u8, reach: u8) -> 
     put_reach(out, after_effect, reach)
 }
 
+// Two bytes as a number, the lower first.
 fn two(low: u8, high: u8) -> usize
     ensures { λ r. ⌜ r ≡ low + high * 256 ⌝ }
 {
@@ -194,8 +195,8 @@ fn put_refusal(out: &mut [u8], number: u8, list: u8, position: usize) -> usize
 // Lists the rules of a folded dossier and puts their lines. They are at most as many as the elements, so the lister never
 // refuses for want of room.
 fn list(d: &[u8], rules: &mut [u8], out: &mut [u8]) -> usize
-    requires { ⌜ Sound (now d) × (length (listedOf (now d)) ≤ mostElements) ⌝ }
-    requires { ⌜ (mostBytes ≤ length (now rules)) × (mostText ≤ length (now out)) ⌝ }
+    requires { ⌜ Short (now d) ⌝ }
+    requires { ⌜ Areas (now rules) (now out) ⌝ }
     ensures { λ r. ⌜ Puts (now (out .entry)) 0 (rulesText (listedOf (now (d .entry)))) (now (out .exit)) r ⌝ }
 {
     match listing::list(d, rules) {
@@ -206,7 +207,7 @@ fn list(d: &[u8], rules: &mut [u8], out: &mut [u8]) -> usize
 
 // Folds a dossier and puts what is printed at the front of `out`: how many bytes.
 fn answer(d: &mut [u8], rules: &mut [u8], out: &mut [u8]) -> usize
-    requires { ⌜ (mostBytes ≤ length (now rules)) × (mostText ≤ length (now out)) ⌝ }
+    requires { ⌜ Areas (now rules) (now out) ⌝ }
     ensures { λ r. ⌜ Answered (now (d .entry)) (now (out .exit)) r ⌝ }
 {
     match least::fold(d) {
@@ -215,8 +216,10 @@ fn answer(d: &mut [u8], rules: &mut [u8], out: &mut [u8]) -> usize
     }
 }
 
+// Reads, answers and prints, with areas that are large enough.
 fn run(kept: &mut [u8], rules: &mut [u8], out: &mut [u8])
-    requires { ⌜ (mostBytes ≤ length (now rules)) × (mostText ≤ length (now out)) ⌝ }
+    requires { ⌜ mostBytes + 2 * width ≤ length (now kept) ⌝ }
+    requires { ⌜ Areas (now rules) (now out) ⌝ }
 {
     let size = gather(kept, out);
     let to = answer(&mut kept[..size], rules, out);

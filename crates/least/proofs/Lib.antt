@@ -3,7 +3,6 @@ pub mod Minimal
 pub mod Sides
 pub mod Folds
 pub mod Verdicts
-pub mod Agreeing
 pub mod Summing
 pub mod Passing
 pub mod Prices

@@ -15,5 +15,4 @@ pub mod ListedSound
 pub mod ThereAndBack
 pub mod Places
 pub mod Decides
-pub mod Overrides
 pub mod Slips

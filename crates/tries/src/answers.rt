@@ -74,6 +74,7 @@ pub fn count(marks: &[u8; 8], n: usize) -> usize {
     sum
 }
 
+// How many rules a mark sets.
 fn rules(mark: u8) -> usize {
     if mark == 0 {
         return 0;
@@ -84,6 +85,7 @@ fn rules(mark: u8) -> usize {
     1
 }
 
+// A byte as a wider number.
 fn wide(x: u8) -> usize {
     x as usize
 }

@@ -33,6 +33,7 @@ pub fn other_marks(marks: [u8; 8]) -> [u8; 8] {
     other
 }
 
+// Whether two rows of bytes are the same.
 fn same_bytes(a: [u8; 64], b: [u8; 64]) -> bool {
     let mut i: usize = 0;
     while i < 64 {
@@ -44,6 +45,7 @@ fn same_bytes(a: [u8; 64], b: [u8; 64]) -> bool {
     true
 }
 
+// Whether a reply is this count.
 fn same_count(reply: Reply, count: usize) -> bool {
     match reply {
         Reply::Count(n) => n == count,
@@ -97,6 +99,7 @@ fn so(verdict: Verdict, count: usize, wrong: usize, least: usize) -> bool {
     }
 }
 
+// Whether a report says what is so of such a marking.
 fn reported_so(report: Report, count: usize, wrong: usize, least: usize) -> bool {
     let verdict = report.verdict;
     if report.count == count {

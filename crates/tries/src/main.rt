@@ -6,9 +6,11 @@ mod library;
 mod tree;
 mod turns;
 
-// At seven elements every 61st marking is judged, counted on from dossier to dossier, so that every mark comes up everywhere.
+// The most elements of a dossier that is tried.
 const SIZE: usize = 7;
 
+// Of dossiers of that size every 61st marking is judged, counted on from one dossier to the next: an odd number, so that
+// every mark comes up at every element.
 const STRIDE: u64 = 61;
 
 // The least count of a dossier, and the first right marking that has it.
@@ -27,10 +29,12 @@ struct Tally {
     judged_otherwise: u64,
 }
 
+// A sum of tallies, far below where it would wrap.
 fn more(a: u64, b: u64) -> u64 {
     std::num::wrapping_add_u64(a, b)
 }
 
+// What is added to the number of differences.
 fn one_unless(fine: bool) -> u64 {
     if fine { 0 } else { 1 }
 }
@@ -229,6 +233,7 @@ fn say(n: usize, tally: Tally) {
     io::write_all(1, b"\n");
 }
 
+// Every size, a line each.
 fn main() {
     let mut n: usize = 1;
     while n <= SIZE {

@@ -31,6 +31,7 @@ fn say_list(d: &[u8], rules: &mut [u8], back: &mut [u8]) {
     }
 }
 
+// The first n rules of the area, which are read back.
 fn say_listed(rules: &[u8], n: usize, back: &mut [u8]) {
     let listed = front(rules, n % 9 * 8);
     saying::say_rules(listed);
@@ -45,6 +46,7 @@ fn say_fold(d: &mut [u8]) {
     }
 }
 
+// A folded dossier: its marks, and the count that the folder gave.
 fn say_folded(d: &[u8], n: usize) {
     saying::say_marks(d);
     say(b"; rules ");
@@ -66,6 +68,7 @@ fn say_case(name: &[u8], line: &[u8], d: &mut [u8], back: &mut [u8], rules: &mut
     say(b"\n");
 }
 
+// A case by its name and its elements, as they are written.
 fn case(name: &[u8], line: &[u8]) {
     let n = making::size(line);
     let mut d = making::elements(line);
@@ -85,6 +88,7 @@ fn say_judged(name: &[u8], marks: &[u8], d: &mut [u8]) {
     say(b"\n");
 }
 
+// A case by its name, its elements and the marks that it is given.
 fn judged(name: &[u8], line: &[u8], marks: &[u8]) {
     let n = making::size(line);
     let mut d = making::elements(line);
@@ -99,23 +103,27 @@ fn say_read(name: &[u8], d: &[u8]) {
     say(b"\n");
 }
 
+// Elements as they are written, read.
 fn read_line(line: &[u8]) {
     let n = making::size(line);
     let d = making::elements(line);
     say_read(line, front(&d, n));
 }
 
+// Two chains, of which the second is one element too deep.
 fn say_chains(d: &mut [u8]) {
     making::put_chain(d);
     say_read(b"depths 0 to 63", front(d, 512));
     say_read(b"depths 0 to 64", front(d, 520));
 }
 
+// The area of the chains.
 fn chains() {
     let mut d = [0u8; 520];
     say_chains(&mut d);
 }
 
+// Dossiers of a root and children, cut at these lengths.
 fn say_lengths(d: &mut [u8]) {
     making::put_flat(d);
     say_read(b"32768 bytes", front(d, 32768));
@@ -125,6 +133,7 @@ fn say_lengths(d: &mut [u8]) {
     say_read(b"0 bytes", front(d, 0));
 }
 
+// The area of the lengths.
 fn lengths() {
     let mut d = [0u8; 32776];
     say_lengths(&mut d);
@@ -151,6 +160,7 @@ fn decided(name: &[u8], house: [u8; 8], recipient: [u8; 8]) {
     say_decided(name, d, &house, &recipient, 2);
 }
 
+// The table of cases.
 fn cases() {
     case(b"A", b"0:1");
     case(b"B", b"0:0 1:1 2:0");
@@ -162,6 +172,7 @@ fn cases() {
     case(b"H", b"0:0 1:1 2:0 3:1");
 }
 
+// The verdicts on other marks.
 fn verdicts() {
     judged(b"D", b"0:1 1:0", b"+ -");
     judged(b"D", b"0:1 1:0", b"\xC2\xB1 n");
@@ -171,6 +182,7 @@ fn verdicts() {
     judged(b"A", b"0:1", b"\xC2\xB1");
 }
 
+// Every line that was worked by hand.
 fn main() {
     cases();
     verdicts();

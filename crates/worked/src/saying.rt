@@ -8,18 +8,22 @@ use least::Report;
 use least::Verdict;
 use libc::STDOUT_FILENO;
 
+// Prints words as they stand.
 pub fn say(words: &[u8]) {
     io::write_all(STDOUT_FILENO, words);
 }
 
+// Prints a number.
 pub fn say_number(n: usize) {
     io::print_decimal(STDOUT_FILENO, n as u64);
 }
 
+// A byte as a wider number.
 fn wide(x: u8) -> usize {
     x as usize
 }
 
+// A refusal and its three numbers.
 pub fn say_refusal(f: Refusal) {
     say(b"refused ");
     say_number(f.number as usize);
@@ -40,6 +44,7 @@ pub fn say_read(reply: Reply) {
     }
 }
 
+// What an element is answered.
 pub fn say_decision(answer: Decision) {
     match answer {
         Decision::Deny => say(b"deny"),
@@ -48,6 +53,7 @@ pub fn say_decision(answer: Decision) {
     }
 }
 
+// An answer, or why there is none.
 pub fn say_answer(answer: Answer) {
     match answer {
         Answer::Given(decision) => say_decision(decision),
@@ -55,6 +61,7 @@ pub fn say_answer(answer: Answer) {
     }
 }
 
+// A mark, as it is written.
 fn say_mark(mark: u8) {
     match mark {
         0 => say(b" n"),
@@ -73,6 +80,7 @@ pub fn say_marks(d: &[u8]) {
     }
 }
 
+// The effect of a rule.
 fn say_effect(effect: u8) {
     if effect == 1 {
         say(b" permit");
@@ -81,6 +89,7 @@ fn say_effect(effect: u8) {
     }
 }
 
+// The reach of a rule.
 fn say_reach(reach: u8) {
     if reach == 1 {
         say(b" all");
@@ -111,6 +120,7 @@ pub fn say_rules(rules: &[u8]) {
     }
 }
 
+// A verdict, in its words.
 fn say_verdict(verdict: Verdict) {
     match verdict {
         Verdict::Least => say(b"least"),
@@ -127,6 +137,7 @@ fn say_verdict(verdict: Verdict) {
     }
 }
 
+// The count and the verdict of a report.
 fn say_report(report: Report) {
     let verdict = report.verdict;
     say(b"rules ");
@@ -135,6 +146,7 @@ fn say_report(report: Report) {
     say_verdict(verdict);
 }
 
+// A judgement: its report, or why there is none.
 pub fn say_judgement(judgement: Judgement) {
     match judgement {
         Judgement::Reported(report) => say_report(report),

@@ -1,5 +1,5 @@
 -- `answer` meets its contract: what is put is the text of the folder's reply.
-use Rattle.front.proofs.Replies.{folded-lists, answered-rules, answered-refusal}
+use Rattle.front.proofs.Replies.{folded-short, answered}
 use borrow.Author.Needs.{needs}
 use Rattle.front.proofs.answer.Statement.{statement}
 use Rattle.front.proofs.answer.Tie as tie
@@ -11,7 +11,10 @@ enum-told : tie.Need-enum-told
 enum-told c = search needs
 
 list-requires : tie.Need-list-requires
-list-requires c κs = (folded-lists _ _ _ _ (c .before .before .before .before .before .before .before .fold .ensures) (c .before .before .before .enum-told .given .1), c .before .before .before .before .before .before .before .before .before .before .before .before .pre)
+list-requires c κs =
+    let told = c .before .before .before in
+    let folded = told .before .before .before .before in
+    (folded-short _ _ _ (folded .fold .ensures) (told .enum-told .given .1), folded .before .before .before .before .before .pre)
 
 enum-known-f : tie.Need-enum-known-f
 enum-known-f c = search needs
@@ -29,7 +32,9 @@ same-length-3 : tie.Need-same-length-3
 same-length-3 c = search needs
 
 returns : tie.Need-returns
-returns c = answered-rules _ _ _ _ _ _ _ (c .before .before .before .before .before .before .before .before .before .before .before .before .fold .ensures) (c .before .before .before .before .before .before .before .before .enum-told .given .1) (c .before .before .before .before .list .ensures)
+returns c =
+    let told = c .before .before .before .before .before .before .before .before in
+    answered _ _ _ (told .before .before .before .before .fold .ensures) _ (told .enum-told .given .1) (c .before .before .before .before .list .ensures)
 
 same-length-4 : tie.Need-same-length-4
 same-length-4 c = search needs
@@ -38,7 +43,9 @@ same-length-5 : tie.Need-same-length-5
 same-length-5 c = search needs
 
 returns-2 : tie.Need-returns-2
-returns-2 c = answered-refusal _ _ _ _ _ _ _ (c .before .before .before .before .before .before .before .before .before .fold .ensures) (c .before .before .before .before .before .f .given .1) (c .before .before .put-refusal .ensures)
+returns-2 c =
+    let refused = c .before .before .before .before .before in
+    answered _ _ _ (refused .before .before .before .before .fold .ensures) _ (refused .f .given .1) (c .before .before .put-refusal .ensures)
 
 pub answer-spec : {M : Type 1} → statement M
 answer-spec =

@@ -1,8 +1,8 @@
 -- `list` meets its contract: the lister counts the rules, and those are put.
+use Rattle.front.proofs.Replies.{list-never, part-within, part-room, part-puts}
 use mathlib.Core.Path.{sym}
 use native.Mathlib.Omega.{arith}
 use lib.Seq.{length-take-le}
-use Rattle.front.proofs.Replies.{list-number, list-never, part-room, part-puts}
 use borrow.Author.Needs.{needs}
 use Rattle.front.proofs.list.Statement.{statement}
 use Rattle.front.proofs.list.Tie as tie
@@ -14,16 +14,33 @@ enum-known-n : tie.Need-enum-known-n
 enum-known-n c = search needs
 
 mul-put-rules : tie.Need-mul-put-rules
-mul-put-rules c = omega (arith, list-number _ _ (c .before .before .before .before .before .before .before .before .before .before .before .pre .0 .0) (c .before .before .before .before .before .before .before .before .before .before .before .pre .0 .1) _ _ (c .before .before .before .before .before .before .before .before .before .before .before .pre .1 .0) (c .before .before .before .before .before .before .list .ensures .0) (c .before .before .n .given .1))
+mul-put-rules c =
+    let listed = c .before .before .before .before .before .before in
+    let start = listed .before .before .before .before .before in
+    omega (arith, part-within (start .pre .0) (start .pre .1) (listed .list .ensures .0) (c .before .before .n .given .1) (listed .list .ensures .1))
 
 slice-reshare-prefix-put-rules : tie.Need-slice-reshare-prefix-put-rules
-slice-reshare-prefix-put-rules c = omega (arith, list-number _ _ (c .before .before .before .before .before .before .before .before .before .before .before .pre .0 .0) (c .before .before .before .before .before .before .before .before .before .before .before .pre .0 .1) _ _ (c .before .before .before .before .before .before .before .before .before .before .before .pre .1 .0) (c .before .before .before .before .before .before .list .ensures .0) (c .before .before .n .given .1))
+slice-reshare-prefix-put-rules c =
+    let listed = c .before .before .before .before .before .before in
+    let start = listed .before .before .before .before .before in
+    omega (
+      arith,
+      part-within (start .pre .0) (start .pre .1) (listed .list .ensures .0) (c .before .before .n .given .1) (listed .list .ensures .1),
+      start .pre .1 .wide,
+    )
 
 slice-aggregate-put-rules : tie.Need-slice-aggregate-put-rules
-slice-aggregate-put-rules c = sym (length-take-le _ _ (omega (arith, list-number _ _ (c .before .before .before .before .before .before .before .before .before .before .before .before .pre .0 .0) (c .before .before .before .before .before .before .before .before .before .before .before .before .pre .0 .1) _ _ (c .before .before .before .before .before .before .before .before .before .before .before .before .pre .1 .0) (c .before .before .before .before .before .before .before .list .ensures .0) (c .before .before .before .n .given .1))))
+slice-aggregate-put-rules c =
+    let listed = c .before .before .before .before .before .before .before in
+    let start = listed .before .before .before .before .before in
+    let within = part-within (start .pre .0) (start .pre .1) (listed .list .ensures .0) (c .before .before .before .n .given .1) (listed .list .ensures .1) in
+    sym (length-take-le _ _ (omega (arith, within, start .pre .1 .wide)))
 
 put-rules-requires : tie.Need-put-rules-requires
-put-rules-requires c κs = part-room _ _ (c .before .before .before .before .before .before .before .before .before .before .before .before .pre .0 .0) (c .before .before .before .before .before .before .before .before .before .before .before .before .pre .0 .1) _ _ (c .before .before .before .before .before .before .before .before .before .before .before .before .pre .1 .0) (list-number _ _ (c .before .before .before .before .before .before .before .before .before .before .before .before .pre .0 .0) (c .before .before .before .before .before .before .before .before .before .before .before .before .pre .0 .1) _ _ (c .before .before .before .before .before .before .before .before .before .before .before .before .pre .1 .0) (c .before .before .before .before .before .before .before .list .ensures .0) (c .before .before .before .n .given .1)) (c .before .before .before .before .before .before .before .list .ensures .1) _ (c .before .before .before .before .before .before .before .before .before .before .before .before .pre .1 .1)
+put-rules-requires c κs =
+    let listed = c .before .before .before .before .before .before .before in
+    let start = listed .before .before .before .before .before in
+    part-room (start .pre .0) (start .pre .1) (listed .list .ensures .0) (c .before .before .before .n .given .1) (listed .list .ensures .1)
 
 enum-known-f : tie.Need-enum-known-f
 enum-known-f c = search needs
@@ -38,7 +55,12 @@ same-length-2 : tie.Need-same-length-2
 same-length-2 c = search needs
 
 returns : tie.Need-returns
-returns c = part-puts _ _ (c .before .before .before .before .before .before .before .before .before .before .before .before .before .before .before .pre .0 .0) (c .before .before .before .before .before .before .before .before .before .before .before .before .before .before .before .pre .0 .1) _ _ (c .before .before .before .before .before .before .before .before .before .before .before .before .before .before .before .pre .1 .0) (list-number _ _ (c .before .before .before .before .before .before .before .before .before .before .before .before .before .before .before .pre .0 .0) (c .before .before .before .before .before .before .before .before .before .before .before .before .before .before .before .pre .0 .1) _ _ (c .before .before .before .before .before .before .before .before .before .before .before .before .before .before .before .pre .1 .0) (c .before .before .before .before .before .before .before .before .before .before .list .ensures .0) (c .before .before .before .before .before .before .n .given .1)) (c .before .before .before .before .before .before .before .before .before .before .list .ensures .1) _ _ _ (c .before .before .put-rules .ensures)
+returns c =
+    let listed = c .before .before .before .before .before .before .before .before .before .before in
+    let start = listed .before .before .before .before .before in
+    let number = c .before .before .before .before .before .before in
+    part-puts (start .pre .0) (start .pre .1) (listed .list .ensures .0) (number .n .given .1) (listed .list .ensures .1)
+    (c .before .before .put-rules .ensures)
 
 same-length-3 : tie.Need-same-length-3
 same-length-3 c = search needs
@@ -47,7 +69,11 @@ same-length-4 : tie.Need-same-length-4
 same-length-4 c = search needs
 
 returns-2 : tie.Need-returns-2
-returns-2 c = absurd (list-never _ _ (c .before .before .before .before .before .before .before .before .before .before .before .before .before .before .pre .0 .0) (c .before .before .before .before .before .before .before .before .before .before .before .before .before .before .pre .0 .1) _ _ (c .before .before .before .before .before .before .before .before .before .before .before .before .before .before .pre .1 .0) (c .before .before .before .before .before .before .before .before .before .list .ensures .0) (c .before .before .before .before .before .f .given .1))
+returns-2 c =
+    let refused = c .before .before .before .before .before in
+    let listed = refused .before .before .before .before in
+    let start = listed .before .before .before .before .before in
+    absurd (list-never (start .pre .0) (start .pre .1) (listed .list .ensures .0) (refused .f .given .1))
 
 pub list-spec : {M : Type 1} → statement M
 list-spec =

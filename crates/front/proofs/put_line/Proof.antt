@@ -8,16 +8,26 @@ put-number-requires : tie.Need-put-number-requires
 put-number-requires c κs = first-room _ (c .before .before .pre)
 
 put-effect-requires : tie.Need-put-effect-requires
-put-effect-requires c κs = left-room _ (left-first (c .before .before .before .before .before .before .pre) (c .before .before .before .put-number .ensures))
+put-effect-requires c κs =
+    let target = c .before .before .before in
+    left-room _ (left-first (target .before .before .before .pre) (target .put-number .ensures))
 
 put-reach-requires : tie.Need-put-reach-requires
-put-reach-requires c κs = last-room (left-more (left-first (c .before .before .before .before .before .before .before .before .before .before .pre) (c .before .before .before .before .before .before .before .put-number .ensures)) (c .before .before .before .put-effect .ensures))
+put-reach-requires c κs =
+    let effect = c .before .before .before in
+    let target = effect .before .before .before .before in
+    last-room (left-more (left-first (target .before .before .before .pre) (target .put-number .ensures)) (effect .put-effect .ensures))
 
 same-length : tie.Need-same-length
 same-length c = search needs
 
 returns : tie.Need-returns
-returns c = left-last (left-more (left-first (c .before .before .before .before .before .before .before .before .before .before .before .before .before .pre) (c .before .before .before .before .before .before .before .before .before .before .put-number .ensures)) (c .before .before .before .before .before .before .put-effect .ensures)) (c .before .before .put-reach .ensures)
+returns c =
+    let reach = c .before .before in
+    let effect = reach .before .before .before .before in
+    let target = effect .before .before .before .before in
+    left-last (left-more (left-first (target .before .before .before .pre) (target .put-number .ensures)) (effect .put-effect .ensures))
+    (reach .put-reach .ensures)
 
 pub put-line-spec : {M : Type 1} → statement M
 put-line-spec =

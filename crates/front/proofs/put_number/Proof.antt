@@ -14,13 +14,20 @@ slice-aggregate-put-word : tie.Need-slice-aggregate-put-word
 slice-aggregate-put-word c = search needs
 
 put-word-requires : tie.Need-put-word-requires
-put-word-requires c κs = rw (number-text (c .before .before .before .before .before .args .n) (c .before .before .decimal .result) (c .before .before .decimal .ensures .1 .0) (c .before .before .decimal .ensures .1 .1)) (c .before .before .before .before .before .pre)
+put-word-requires c κs =
+    let number = c .before .before in
+    let start = number .before .before .before in
+    rw (number-text (start .args .n) (number .decimal .result) (number .decimal .ensures .1 .0) (number .decimal .ensures .1 .1)) (start .pre)
 
 same-length : tie.Need-same-length
 same-length c = search needs
 
 returns : tie.Need-returns
-returns c = rw (← number-text (c .before .before .before .before .before .before .before .before .args .n) (c .before .before .before .before .before .decimal .result) (c .before .before .before .before .before .decimal .ensures .1 .0) (c .before .before .before .before .before .decimal .ensures .1 .1)) (c .before .before .put-word .ensures)
+returns c =
+    let number = c .before .before .before .before .before in
+    let start = number .before .before .before in
+    rw (← number-text (start .args .n) (number .decimal .result) (number .decimal .ensures .1 .0) (number .decimal .ensures .1 .1))
+    (c .before .before .put-word .ensures)
 
 pub put-number-spec : {M : Type 1} → statement M
 put-number-spec =

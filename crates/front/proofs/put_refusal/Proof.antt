@@ -1,5 +1,4 @@
 -- `put_refusal` meets its contract: the parts of the line follow each other.
-use native.Mathlib.Omega.{arith}
 use Rattle.front.specs.Printing.{refusalText}
 use Rattle.front.proofs.Putting.{left-first, left-more, left-last, left-room, last-room}
 use Rattle.front.proofs.Lines.{refusal-room}
@@ -15,22 +14,43 @@ put-word-requires c κs = search needs
 
 put-ended-requires : tie.Need-put-ended-requires
 unfolding refusalText
-put-ended-requires c κs = left-room _ (left-first (refusal-room _ (c .before .before .before .before .before .before .before .args .number) (c .before .before .before .before .before .before .before .args .list) (c .before .before .before .before .before .before .before .args .position) (omega (arith, c .before .before .before .before .before .before .before .fits .number)) (omega (arith, c .before .before .before .before .before .before .before .fits .list)) (omega (arith, c .before .before .before .before .before .before .before .fits .position)) (c .before .before .before .before .before .before .before .pre)) (c .before .before .before .put-word .ensures))
+put-ended-requires c κs =
+    let word = c .before .before .before in
+    let start = word .before .before .before .before in
+    left-room _ (left-first (refusal-room (start .fits .number) (start .fits .list) (start .fits .position) (start .pre)) (word .put-word .ensures))
 
 put-ended-requires-2 : tie.Need-put-ended-requires-2
 unfolding refusalText
-put-ended-requires-2 c κs = left-room _ (left-more (left-first (refusal-room _ (c .before .before .before .before .before .before .before .before .before .before .before .args .number) (c .before .before .before .before .before .before .before .before .before .before .before .args .list) (c .before .before .before .before .before .before .before .before .before .before .before .args .position) (omega (arith, c .before .before .before .before .before .before .before .before .before .before .before .fits .number)) (omega (arith, c .before .before .before .before .before .before .before .before .before .before .before .fits .list)) (omega (arith, c .before .before .before .before .before .before .before .before .before .before .before .fits .position)) (c .before .before .before .before .before .before .before .before .before .before .before .pre)) (c .before .before .before .before .before .before .before .put-word .ensures)) (c .before .before .before .put-ended .ensures))
+put-ended-requires-2 c κs =
+    let number = c .before .before .before in
+    let word = number .before .before .before .before in
+    let start = word .before .before .before .before in
+    left-room _ (left-more (left-first (refusal-room (start .fits .number) (start .fits .list) (start .fits .position) (start .pre)) (word .put-word .ensures)) (number .put-ended .ensures))
 
 put-ended-requires-3 : tie.Need-put-ended-requires-3
 unfolding refusalText
-put-ended-requires-3 c κs = last-room (left-more (left-more (left-first (refusal-room _ (c .before .before .before .before .before .before .before .before .before .before .before .before .before .before .before .args .number) (c .before .before .before .before .before .before .before .before .before .before .before .before .before .before .before .args .list) (c .before .before .before .before .before .before .before .before .before .before .before .before .before .before .before .args .position) (omega (arith, c .before .before .before .before .before .before .before .before .before .before .before .before .before .before .before .fits .number)) (omega (arith, c .before .before .before .before .before .before .before .before .before .before .before .before .before .before .before .fits .list)) (omega (arith, c .before .before .before .before .before .before .before .before .before .before .before .before .before .before .before .fits .position)) (c .before .before .before .before .before .before .before .before .before .before .before .before .before .before .before .pre)) (c .before .before .before .before .before .before .before .before .before .before .before .put-word .ensures)) (c .before .before .before .before .before .before .before .put-ended .ensures)) (c .before .before .before .put-ended2 .ensures))
+put-ended-requires-3 c κs =
+    let list = c .before .before .before in
+    let number = list .before .before .before .before in
+    let word = number .before .before .before .before in
+    let start = word .before .before .before .before in
+    last-room
+    (left-more (left-more (left-first (refusal-room (start .fits .number) (start .fits .list) (start .fits .position) (start .pre)) (word .put-word .ensures)) (number .put-ended .ensures)) (list .put-ended2 .ensures))
 
 same-length : tie.Need-same-length
 same-length c = search needs
 
 returns : tie.Need-returns
 unfolding refusalText
-returns c = left-last (left-more (left-more (left-first (refusal-room _ (c .before .before .before .before .before .before .before .before .before .before .before .before .before .before .before .before .before .before .args .number) (c .before .before .before .before .before .before .before .before .before .before .before .before .before .before .before .before .before .before .args .list) (c .before .before .before .before .before .before .before .before .before .before .before .before .before .before .before .before .before .before .args .position) (omega (arith, c .before .before .before .before .before .before .before .before .before .before .before .before .before .before .before .before .before .before .fits .number)) (omega (arith, c .before .before .before .before .before .before .before .before .before .before .before .before .before .before .before .before .before .before .fits .list)) (omega (arith, c .before .before .before .before .before .before .before .before .before .before .before .before .before .before .before .before .before .before .fits .position)) (c .before .before .before .before .before .before .before .before .before .before .before .before .before .before .before .before .before .before .pre)) (c .before .before .before .before .before .before .before .before .before .before .before .before .before .before .put-word .ensures)) (c .before .before .before .before .before .before .before .before .before .before .put-ended .ensures)) (c .before .before .before .before .before .before .put-ended2 .ensures)) (c .before .before .put-ended3 .ensures)
+returns c =
+    let position = c .before .before in
+    let list = position .before .before .before .before in
+    let number = list .before .before .before .before in
+    let word = number .before .before .before .before in
+    let start = word .before .before .before .before in
+    left-last
+    (left-more (left-more (left-first (refusal-room (start .fits .number) (start .fits .list) (start .fits .position) (start .pre)) (word .put-word .ensures)) (number .put-ended .ensures)) (list .put-ended2 .ensures))
+    (position .put-ended3 .ensures)
 
 pub put-refusal-spec : {M : Type 1} → statement M
 put-refusal-spec =

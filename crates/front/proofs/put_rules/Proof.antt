@@ -22,10 +22,18 @@ put-word-requires : tie.Need-put-word-requires Inv-loop μ-loop
 put-word-requires c κs = first-room _ (rw (rules-lines _) at (c .before .before .before .before .pre))
 
 put-ended-requires : tie.Need-put-ended-requires Inv-loop μ-loop
-put-ended-requires c κs = left-room _ (left-first (rw (rules-lines _) at (c .before .before .before .before .before .before .before .before .pre)) (c .before .before .before .put-word .ensures))
+put-ended-requires c κs =
+    let word = c .before .before .before in
+    let start = word .before .before .before .before .before in
+    left-room _ (left-first (rw (rules-lines _) at (start .pre)) (word .put-word .ensures))
 
 loop-holds : tie.Need-loop-holds Inv-loop μ-loop
-loop-holds c = (search needs, rw (sub-zero _) (left-all (last-room (left-more (left-first (rw (rules-lines _) at (c .before .before .before .before .before .before .before .before .before .before .before .pre)) (c .before .before .before .before .before .before .put-word .ensures)) (c .before .before .put-ended .ensures)))))
+loop-holds c =
+    let count = c .before .before in
+    let word = count .before .before .before .before in
+    let start = word .before .before .before .before .before in
+    let left = left-more (left-first (rw (rules-lines _) at (start .pre)) (word .put-word .ensures)) (count .put-ended .ensures) in
+    (search needs, rw (sub-zero _) (left-all (last-room left)))
 
 put-rule-requires : tie.Need-put-rule-requires Inv-loop μ-loop
 put-rule-requires c κs = (
@@ -40,19 +48,21 @@ loop-less : tie.Need-loop-less Inv-loop μ-loop
 loop-less c = search needs
 
 loop-again : tie.Need-loop-again Inv-loop μ-loop
-loop-again c = (
-  search needs,
-  left-more (rw (lines-first _ _ _ (c .before .before .before .before .loop-test .taken)) at (c .before .before .before .before .before .loop .inv .1)) (c .before .before .put-rule .ensures),
-)
+loop-again c =
+    let turn = c .before .before .before .before in
+    let left = rw (lines-first _ _ _ (turn .loop-test .taken)) at (turn .before .loop .inv .1) in
+    (search needs, left-more left (c .before .before .put-rule .ensures))
 
 same-length : tie.Need-same-length Inv-loop μ-loop
 same-length c = search needs
 
 returns : tie.Need-returns Inv-loop μ-loop
 returns c =
-    rw (rules-lines _)
-    (left-last (left-more (left-first (rw (rules-lines _) at (c .before .before .before .before .before .before .before .before .before .before .before .before .before .pre)) (c .before .before .before .before .before .before .before .before .put-word .ensures)) (c .before .before .before .before .put-ended .ensures))
-    (left-none (rw (lines-none _ _ _ (c .loop-test .left)) at (c .before .loop .inv .1))))
+    let count = c .before .before .before .before in
+    let word = count .before .before .before .before in
+    let start = word .before .before .before .before .before in
+    let left = left-more (left-first (rw (rules-lines _) at (start .pre)) (word .put-word .ensures)) (count .put-ended .ensures) in
+    rw (rules-lines _) (left-last left (left-none (rw (lines-none _ _ _ (c .loop-test .left)) at (c .before .loop .inv .1))))
 
 pub put-rules-spec : {M : Type 1} → statement M
 put-rules-spec =

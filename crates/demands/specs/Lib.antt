@@ -1,0 +1,7 @@
+pub mod Refusing
+pub mod Definite
+pub mod Published
+pub mod Demand1
+pub mod Demand2
+pub mod Demand3
+pub mod Twelve

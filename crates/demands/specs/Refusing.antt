@@ -1,0 +1,90 @@
+-- The refusals of a request, one condition after the other in the order of the table. Assumes nothing: these are definitions.
+use mathlib.Core.Path.{_≡_}
+use mathlib.Core.Logic.{_≢_, _⊎_}
+use Prim.Native.Nat.{ℕ, zero, suc, _+_, _*_, _≤_, _<_}
+use mathlib.Core.List.{List}
+use lib.ListN.{length, getD}
+use Rattle.dossier.specs.Limits.{width, deepest, mostElements}
+use Rattle.dossier.specs.Elements.{Mark}
+use Rattle.dossier.specs.Bytes.{records}
+use Rattle.dossier.specs.Table.{Row}
+use Rattle.dossier.specs.declared.Refusal.{Refusal}
+use Rattle.rules.specs.Rules.{rulesOf}
+use Rattle.rules.specs.RuleTable.{RuleRow}
+use Rattle.marks.specs.Stepping.{Leaves}
+use Rattle.marks.specs.declared.Walk.{Walk}
+use Rattle.listing.specs.Back.{Gives}
+use Rattle.view.specs.View.{IsView}
+
+-- which refusals are to be given
+abbrev pub Refusals : Type 1
+Refusals = Refusal → Type 0
+
+-- this number, list and position, where P holds
+abbrev pub row : ℕ → ℕ → ℕ → Type 0 → Refusals
+row number list position P f = (f ≡ record { number = number; list = list; position = position }) × P
+
+-- the refusals of P; where there is none of these, those of Q
+pub data _before_ (P Q : Refusals) (f : Refusal) : Type 0 where
+  first : P f → (P before Q) f
+  later : ((g : Refusal) → P g → ⊥) → Q f → (P before Q) f
+
+infixr 20 _before_
+-- ---- the rows of the table
+
+-- 1 to 6, of a dossier's own bytes
+abbrev pub inElements : List ℕ → Refusals
+inElements d f = Row d (f .number) (f .list) (f .position)
+
+-- 2, 3 and 7, of a rule list over the dossier
+abbrev pub inRules : List ℕ → ℕ → List ℕ → Refusals
+inRules d list rs = RuleRow d list rs
+
+-- 8: the output area is shorter than the records to be written
+abbrev pub tooShort : ℕ → List ℕ → Refusals
+tooShort n area = row 8 0 0 (length area < n * width)
+
+-- the same, where the view is to be written
+abbrev pub tooShortForView : List ℕ → List ℕ → Refusals
+tooShortForView d area = row 8 0 0 ((shown : List (List ℕ)) × IsView d shown × (length area < length shown * width))
+
+-- 9: no marks of this dossier give this rule list
+abbrev pub noMarks : List ℕ → List ℕ → Refusals
+noMarks d rs = row 9 1 0 ((ms : List Mark) → Gives d ms (rulesOf rs) → ⊥)
+
+-- 10: the element asked for isn't there
+abbrev pub noElement : List ℕ → ℕ → Refusals
+noElement d i = row 10 0 0 (records d ≤ i)
+
+-- 11: combining number over 2
+abbrev pub noCombining : ℕ → Refusals
+noCombining c = row 11 0 0 (2 < c)
+
+-- ---- of a walk step
+
+-- 17: a walk that no accepted records after a fresh one could leave
+abbrev pub neverLeft : Walk → Refusals
+neverLeft w = row 17 0 0 (Leaves w → ⊥)
+
+-- 2: the record isn't eight bytes
+abbrev pub notOneRecord : List ℕ → Refusals
+notOneRecord r = row 2 0 0 (length r ≢ width)
+
+-- 3: so many records are already taken
+abbrev pub allTaken : Walk → Refusals
+allTaken w = row 3 0 0 (mostElements ≤ w .taken)
+
+-- 5, 4 and 6: the position is the number of records taken so far
+abbrev pub tooDeep : Walk → List ℕ → Refusals
+tooDeep w r = row 5 0 (w .taken) (deepest < getD r 0 0)
+
+-- after `taken` records, the last of this depth, the next depth breaks the order
+abbrev pub Breaks : ℕ → ℕ → ℕ → Type 0
+Breaks zero last next = next ≢ 0
+Breaks (suc taken) last next = (next < 1) ⊎ (last + 1 < next)
+
+abbrev pub outOfOrder : Walk → List ℕ → Refusals
+outOfOrder w r = row 4 0 (w .taken) (Breaks (w .taken) (w .depth) (getD r 0 0))
+
+abbrev pub badField : Walk → List ℕ → Refusals
+badField w r = row 6 0 (w .taken) ((1 < getD r 1 0) ⊎ (3 < getD r 2 0) ⊎ (getD r 3 0 ≢ 0))
