@@ -45,7 +45,7 @@ fn answer(
 pub const RIGHT: usize = 99;
 
 // The first element that is answered otherwise than it is set, times 4, plus its answer.
-pub fn first_wrong(
+pub(crate) fn first_wrong(
     covers: &[u8; 64],
     order: &[u8; 8],
     decisions: &[u8; 8],
@@ -64,7 +64,7 @@ pub fn first_wrong(
 }
 
 // How many rules a marking lists.
-pub fn count(marks: &[u8; 8], n: usize) -> usize {
+pub(crate) fn count(marks: &[u8; 8], n: usize) -> usize {
     let mut sum: usize = 0;
     let mut i: usize = 0;
     while i < n {

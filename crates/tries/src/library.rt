@@ -7,7 +7,7 @@ use least::Report;
 use least::Verdict;
 
 // The bytes of a dossier with these marks, its elements' numbers as keys; the bytes past its end are there to be left alone.
-pub fn bytes_of(depths: [u8; 8], decisions: [u8; 8], marks: [u8; 8], n: usize) -> [u8; 64] {
+pub(crate) fn bytes_of(depths: [u8; 8], decisions: [u8; 8], marks: [u8; 8], n: usize) -> [u8; 64] {
     let mut d = [170u8; 64];
     let mut i: usize = 0;
     while i < n {
@@ -23,7 +23,7 @@ pub fn bytes_of(depths: [u8; 8], decisions: [u8; 8], marks: [u8; 8], n: usize) -
 }
 
 // A marking that differs from this one at every element.
-pub fn other_marks(marks: [u8; 8]) -> [u8; 8] {
+pub(crate) fn other_marks(marks: [u8; 8]) -> [u8; 8] {
     let mut other = [0u8; 8];
     let mut i: usize = 0;
     while i < 8 {
@@ -54,7 +54,7 @@ fn same_count(reply: Reply, count: usize) -> bool {
 }
 
 // Whether the folder turns the n elements `found` into `wanted` byte for byte, and replies with this count.
-pub fn folds_so(found: [u8; 64], wanted: [u8; 64], n: usize, count: usize) -> bool {
+pub(crate) fn folds_so(found: [u8; 64], wanted: [u8; 64], n: usize, count: usize) -> bool {
     let mut d = found;
     let reply = least::fold(&mut d[..n % 8 * 8]);
     if same_count(reply, count) {
@@ -109,7 +109,7 @@ fn reported_so(report: Report, count: usize, wrong: usize, least: usize) -> bool
 }
 
 // Whether the judge reports on the n elements what is so of them.
-pub fn judges_so(d: [u8; 64], n: usize, count: usize, wrong: usize, least: usize) -> bool {
+pub(crate) fn judges_so(d: [u8; 64], n: usize, count: usize, wrong: usize, least: usize) -> bool {
     match least::judge(&d[..n % 8 * 8]) {
         Judgement::Reported(report) => reported_so(report, count, wrong, least),
         Judgement::Refused(_) => false,

@@ -30,7 +30,7 @@ fn with_above(covers: [u8; 64], depths: [u8; 8], i: usize) -> [u8; 64] {
 }
 
 // At t * 8 + i: 1 where element i is element t or below it, else 0.
-pub fn covers_of(depths: [u8; 8], n: usize) -> [u8; 64] {
+pub(crate) fn covers_of(depths: [u8; 8], n: usize) -> [u8; 64] {
     let mut covers = [0u8; 64];
     let mut i: usize = 0;
     while i < n {
@@ -69,7 +69,7 @@ fn place(covers: &[u8; 64], n: usize, q: usize) -> usize {
 }
 
 // The elements in the order in which their own rules are listed.
-pub fn order_of(covers: &[u8; 64], n: usize) -> [u8; 8] {
+pub(crate) fn order_of(covers: &[u8; 64], n: usize) -> [u8; 8] {
     let mut order = [0u8; 8];
     let mut q: usize = 0;
     while q < n {

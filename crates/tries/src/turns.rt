@@ -7,7 +7,7 @@ pub struct Next {
 }
 
 // The next row of n digits below `base`, or done after the last.
-pub fn next_digits(digits: [u8; 8], n: usize, base: u8) -> Next {
+pub(crate) fn next_digits(digits: [u8; 8], n: usize, base: u8) -> Next {
     let mut row = digits;
     let mut i = n;
     while i > 0 {
@@ -23,12 +23,12 @@ pub fn next_digits(digits: [u8; 8], n: usize, base: u8) -> Next {
 }
 
 // The first tree: a root with n - 1 children.
-pub fn first_depths() -> [u8; 8] {
+pub(crate) fn first_depths() -> [u8; 8] {
     [0, 1, 1, 1, 1, 1, 1, 1]
 }
 
 // The next row of depths, each later one from 1 to one more than the depth before it, or done after the last.
-pub fn next_depths(depths: [u8; 8], n: usize) -> Next {
+pub(crate) fn next_depths(depths: [u8; 8], n: usize) -> Next {
     let mut row = depths;
     let mut i = n;
     while i > 1 {

@@ -12,14 +12,14 @@ fn digit(line: &[u8], at: usize) -> u8 {
 }
 
 // How many bytes the elements of a line take, of which there are at most eight.
-pub fn size(line: &[u8]) -> usize
+pub(crate) fn size(line: &[u8]) -> usize
     ensures { λ r. ⌜ r ≤ 64 ⌝ }
 {
     (line.len() / 4 + 1) % 9 * 8
 }
 
 // The elements of a line such as `0:0 1:1 2:0`, with the marks n and the keys 10, 20 and so on.
-pub fn elements(line: &[u8]) -> [u8; 64]
+pub(crate) fn elements(line: &[u8]) -> [u8; 64]
     ensures { λ r. ⌜ length r ≡ 64 ⌝ }
 {
     let mut d = [0u8; 64];
@@ -35,7 +35,7 @@ pub fn elements(line: &[u8]) -> [u8; 64]
 }
 
 // The first n of these bytes, or all of them.
-pub fn front(s: &[u8], n: usize) -> &[u8] {
+pub(crate) fn front(s: &[u8], n: usize) -> &[u8] {
     if s.len() < n {
         return s;
     }
@@ -67,7 +67,7 @@ fn put_mark(d: &mut [u8], i: usize, c: u8) -> usize {
 }
 
 // Writes the marks of a line such as `+ - n`.
-pub fn put_marks(d: &mut [u8], line: &[u8]) {
+pub(crate) fn put_marks(d: &mut [u8], line: &[u8]) {
     let mut i: usize = 0;
     let mut at: usize = 0;
     while at < line.len() {
@@ -77,14 +77,14 @@ pub fn put_marks(d: &mut [u8], line: &[u8]) {
 }
 
 // A rule's bytes: its target and that one's key, its effect and its reach.
-pub fn rule(target: u8, effect: u8, reach: u8) -> [u8; 8]
+pub(crate) fn rule(target: u8, effect: u8, reach: u8) -> [u8; 8]
     ensures { λ r. ⌜ length r ≡ 8 ⌝ }
 {
     [target, 0, effect, reach, 10 + target % 8 * 10, 0, 0, 0]
 }
 
 // A dossier of a root and children below it, up to the end of the area.
-pub fn put_flat(d: &mut [u8]) {
+pub(crate) fn put_flat(d: &mut [u8]) {
     let mut i: usize = 1;
     while i < d.len() / 8 {
         d[i * 8] = 1;
@@ -93,7 +93,7 @@ pub fn put_flat(d: &mut [u8]) {
 }
 
 // A dossier of elements each below the one before it, up to the end of the area.
-pub fn put_chain(d: &mut [u8]) {
+pub(crate) fn put_chain(d: &mut [u8]) {
     let mut i: usize = 0;
     while i < d.len() / 8 {
         d[i * 8] = (i % 256) as u8;

@@ -9,12 +9,12 @@ use least::Verdict;
 use libc::STDOUT_FILENO;
 
 // Prints words as they stand.
-pub fn say(words: &[u8]) {
+pub(crate) fn say(words: &[u8]) {
     io::write_all(STDOUT_FILENO, words);
 }
 
 // Prints a number.
-pub fn say_number(n: usize) {
+pub(crate) fn say_number(n: usize) {
     io::print_decimal(STDOUT_FILENO, n as u64);
 }
 
@@ -24,7 +24,7 @@ fn wide(x: u8) -> usize {
 }
 
 // A refusal and its three numbers.
-pub fn say_refusal(f: Refusal) {
+pub(crate) fn say_refusal(f: Refusal) {
     say(b"refused ");
     say_number(f.number as usize);
     say(b" ");
@@ -34,7 +34,7 @@ pub fn say_refusal(f: Refusal) {
 }
 
 // A reply that counts elements.
-pub fn say_read(reply: Reply) {
+pub(crate) fn say_read(reply: Reply) {
     match reply {
         Reply::Count(n) => {
             say_number(n);
@@ -45,7 +45,7 @@ pub fn say_read(reply: Reply) {
 }
 
 // What an element is answered.
-pub fn say_decision(answer: Decision) {
+pub(crate) fn say_decision(answer: Decision) {
     match answer {
         Decision::Deny => say(b"deny"),
         Decision::Permit => say(b"permit"),
@@ -54,7 +54,7 @@ pub fn say_decision(answer: Decision) {
 }
 
 // An answer, or why there is none.
-pub fn say_answer(answer: Answer) {
+pub(crate) fn say_answer(answer: Answer) {
     match answer {
         Answer::Given(decision) => say_decision(decision),
         Answer::Refused(f) => say_refusal(f),
@@ -72,7 +72,7 @@ fn say_mark(mark: u8) {
 }
 
 // The marks of a dossier.
-pub fn say_marks(d: &[u8]) {
+pub(crate) fn say_marks(d: &[u8]) {
     let mut i: usize = 0;
     while i < d.len() / 8 {
         say_mark(d[i * 8 + 2]);
@@ -99,7 +99,7 @@ fn say_reach(reach: u8) {
 }
 
 // A rule by its bytes, where there are any.
-pub fn say_rule(rule: &[u8]) {
+pub(crate) fn say_rule(rule: &[u8]) {
     if rule.len() < 8 {
         say(b"no rule");
         return;
@@ -110,7 +110,7 @@ pub fn say_rule(rule: &[u8]) {
 }
 
 // The rules of a list, each after a comma.
-pub fn say_rules(rules: &[u8]) {
+pub(crate) fn say_rules(rules: &[u8]) {
     let mut i: usize = 0;
     while i < rules.len() / 8 {
         let at = i * 8;
@@ -147,7 +147,7 @@ fn say_report(report: Report) {
 }
 
 // A judgement: its report, or why there is none.
-pub fn say_judgement(judgement: Judgement) {
+pub(crate) fn say_judgement(judgement: Judgement) {
     match judgement {
         Judgement::Reported(report) => say_report(report),
         Judgement::Refused(f) => say_refusal(f),
