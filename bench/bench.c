@@ -162,12 +162,11 @@ static unsigned turns_for(work f)
     return turns;
 }
 
-/* The best time of each, taken in turn so that both see the same machine. */
+/* Lowers the best time of each, taken in turn so that both see the same machine. */
 static void measure(work lib, work c, double *lib_best, double *c_best)
 {
     unsigned lib_turns = turns_for(lib), c_turns = turns_for(c);
-    *lib_best = *c_best = 1e18;
-    for (int i = 0; i < 15; i++) {
+    for (int i = 0; i < 8; i++) {
         double a = once(lib, lib_turns), b = once(c, c_turns);
         if (a < *lib_best)
             *lib_best = a;
@@ -195,12 +194,14 @@ int main(void)
     for (size_t k = 0; k < sizeof kinds / sizeof *kinds; k++)
         for (int shape = 0; shape < 3; shape++)
             for (int s = 0; s < 3; s++) {
-                double lib, c, half, half_c;
-                prepare(sizes[s] / 2, shape);
-                measure(kinds[k].lib, kinds[k].c, &half, &half_c);
-                prepare(sizes[s], shape);
+                double lib = 1e18, c = 1e18, half = 1e18, half_c = 1e18;
+                for (int i = 0; i < 3; i++) {
+                    prepare(sizes[s] / 2, shape);
+                    measure(kinds[k].lib, kinds[k].c, &half, &half_c);
+                    prepare(sizes[s], shape);
+                    measure(kinds[k].lib, kinds[k].c, &lib, &c);
+                }
                 uint64_t a = kinds[k].lib(), b = kinds[k].c();
-                measure(kinds[k].lib, kinds[k].c, &lib, &c);
                 text(kinds[k].name, 10);
                 text(shapes[shape], 8);
                 number(sizes[s], 8);
