@@ -39,7 +39,8 @@ fn one_unless(fine: bool) -> u64 {
     if fine { 0 } else { 1 }
 }
 
-// Tries every marking, in their order.
+// Goes through every marking in their order, and decides the elements of each that lists fewer rules than the best so far: one that
+// lists as many or more can be neither less nor the first of the least.
 fn best_of(covers: &[u8; 64], order: &[u8; 8], decisions: &[u8; 8], n: usize) -> Best {
     let mut least: usize = 99;
     let mut first = [0u8; 8];
