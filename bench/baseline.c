@@ -364,14 +364,18 @@ uint64_t base_view(const uint8_t *d, size_t len, uint8_t *out, size_t out_len)
     if (refused(n))
         return n;
     uint8_t handed[64], shown[4096];
-    size_t total = 0;
+    size_t total = 0, limit = 64;
     for (size_t p = 0; p < n; p++) {
         size_t depth = d[p * 8];
+        shown[p] = 0;
+        if (depth > limit)
+            continue;
         unsigned above = depth ? handed[depth - 1] : 2;
         unsigned mark = d[p * 8 + 2], decision = d[p * 8 + 1];
         shown[p] = (mark == 0 ? above : decision) == 1;
         total += shown[p];
         handed[depth] = (uint8_t)hands(mark, decision, above);
+        limit = shown[p] ? 64 : depth;
     }
     if (out_len < total * 8)
         return refusal(8, 0, 0);

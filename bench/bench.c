@@ -76,8 +76,8 @@ static uint32_t draw(uint32_t below)
     return (uint32_t)((uint64_t)(seed >> 8) * below >> 24);
 }
 
-/* 0 a chain that starts again at depth 1 once it is 63 deep, 1 a star, 2 any depths */
-static void make(uint8_t *d, size_t n, int shape)
+/* 0 a chain that starts again at depth 1 once it is 63 deep, 1 a star, 2 any depths; one element in so many is denied */
+static void make(uint8_t *d, size_t n, int shape, uint32_t denied)
 {
     unsigned depth = 0;
     seed = (uint32_t)n * 3u + (uint32_t)shape;
@@ -85,7 +85,7 @@ static void make(uint8_t *d, size_t n, int shape)
         if (i > 0)
             depth = shape == 0 ? depth % 63 + 1 : shape == 1 ? 1 : 1 + draw(depth < 63 ? depth + 1 : 63);
         d[i * 8] = (uint8_t)depth;
-        d[i * 8 + 1] = (uint8_t)draw(2);
+        d[i * 8 + 1] = draw(denied) != 0;
         d[i * 8 + 2] = 0;
         d[i * 8 + 3] = 0;
         uint32_t key = draw(1u << 24);
@@ -95,7 +95,7 @@ static void make(uint8_t *d, size_t n, int shape)
 
 /* ---- what is timed: one call of each kind, by the library or by the baseline */
 
-static uint8_t dossier[MOST * 8], marked[MOST * 8], rules[MOST * 16], out[MOST * 16];
+static uint8_t dossier[MOST * 8], marked[MOST * 8], opened[MOST * 8], rules[MOST * 16], out[MOST * 16];
 static size_t size, rules_size;
 
 typedef uint64_t (*work)(void);
@@ -112,8 +112,8 @@ static uint64_t lib_fold(void) { return nv_fold(dossier, size); }
 static uint64_t c_fold(void) { return base_fold(dossier, size); }
 static uint64_t lib_judge(void) { return nv_judge(marked, size); }
 static uint64_t c_judge(void) { return base_judge(marked, size); }
-static uint64_t lib_view(void) { return nv_view(marked, size, out, sizeof out); }
-static uint64_t c_view(void) { return base_view(marked, size, out, sizeof out); }
+static uint64_t lib_view(void) { return nv_view(opened, size, out, sizeof out); }
+static uint64_t c_view(void) { return base_view(opened, size, out, sizeof out); }
 
 static uint64_t lib_steps(void)
 {
@@ -178,10 +178,13 @@ static void measure(work lib, work c, double *lib_best, double *c_best)
 static void prepare(size_t n, int shape)
 {
     size = n * 8;
-    make(dossier, n, shape);
+    make(dossier, n, shape, 2);
     memcpy(marked, dossier, size);
     base_fold(marked, size);
     rules_size = 8 * base_list(marked, size, rules, sizeof rules);
+    make(opened, n, shape, 16);
+    opened[1] = 1;
+    base_fold(opened, size);
 }
 
 static const size_t sizes[] = {64, 512, 4096};

@@ -72,8 +72,10 @@ uint64_t nv_fold(uint8_t *dossier, size_t dossier_len);
  * Refusals 1 to 6. */
 uint64_t nv_judge(const uint8_t *dossier, size_t dossier_len);
 
-/* Writes the records of the elements that the walk over the dossier's marks permits to the front of out; replies how
- * many. The rest of out is unchanged. Refusals 1 to 6, then 8. */
+/* Writes the records of the elements that are permitted and have only permitted elements above them to the front of
+ * out; replies how many. Permitted are those that the walk over the dossier's marks answers with permit. What is written
+ * is a sound dossier, or nothing: a root that isn't permitted shows nothing. The rest of out is unchanged. Refusals 1 to
+ * 6, then 8. */
 uint64_t nv_view(const uint8_t *dossier, size_t dossier_len, uint8_t *out, size_t out_len);
 
 #ifdef __cplusplus

@@ -1,4 +1,4 @@
-"""What document 01 says, written down a second time and on its own: plain Python over bytes.
+"""What document 01 and the requests say, written down a second time and on its own: plain Python over bytes.
 
 It shares nothing with the library but the layout of the bytes, and it prefers the obvious to the fast. A refusal is
 the tuple (number, list, position); every function gives back its reply and the buffers as they are afterwards.
@@ -325,8 +325,14 @@ def judge(dossier):
 
 # ---- the view
 
-def view(dossier, area):
-    elements = elements_of(dossier)
+def shown(elements):
+    """The positions of the elements that are permitted and have only permitted ones above them."""
     answers = walk(elements, [e.mark for e in elements])
-    shown = [r for r, answer in zip(records(dossier), answers) if answer == PERMIT]
-    return len(shown), into_area(shown, area)
+    parent = parents(elements)
+    return [p for p in range(len(elements)) if all(answers[t] == PERMIT for t in at_or_above(parent, p))]
+
+
+def view(dossier, area):
+    found = records(dossier)
+    kept = [found[p] for p in shown(elements_of(dossier))]
+    return len(kept), into_area(kept, area)

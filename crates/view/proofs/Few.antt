@@ -21,7 +21,8 @@ pub view-few : (d : List ℕ) {shown : List (List ℕ)} → IsView d shown → l
 unfolding recordsOf
 view-few d v = omega (arith, keeps-few v, run-length (recordAt d) 0 (records d))
 
-room-count : (m : ℕ) (area : List ℕ) {n : ℕ} → Count n ≡ roomFor m area → n ≡ m
+-- a count is that of the records to be written
+pub room-count : (m : ℕ) (area : List ℕ) {n : ℕ} → Count n ≡ roomFor m area → n ≡ m
 unfolding roomFor
 room-count m area {n} e = go (ltb (length area) (m * width)) e
   where

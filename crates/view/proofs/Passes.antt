@@ -10,41 +10,41 @@ use lib.ListN.{length, length-append}
 use lib.Seq.{sets}
 use Rattle.dossier.specs.Limits.{width}
 use Rattle.dossier.specs.Bytes.{records, recordAt, joined}
-use Rattle.view.specs.Inner.{shows, handedFirst, handedAfter, shownFrom, shownOf, bytesOf, bytesIf}
+use Rattle.view.specs.Inner.{Memory, atFirst, shows, after, shownFrom, shownOf, bytesOf, bytesIf}
 use Rattle.dossier.proofs.Stores.{sets-more}
 use Rattle.view.proofs.Writing.{record-long}
 
 -- what is left to show from record i on
-unfoldable pub rest : List ℕ → List ℕ → ℕ → List (List ℕ)
-rest handed d i = shownFrom handed d i (records d - i)
+unfoldable pub rest : Memory → List ℕ → ℕ → List (List ℕ)
+rest m d i = shownFrom m d i (records d - i)
 
-pub rest-first : (d : List ℕ) → rest handedFirst d 0 ≡ shownOf d
+pub rest-first : (d : List ℕ) → rest atFirst d 0 ≡ shownOf d
 unfolding rest shownOf
 rest-first d = rw sub-zero
 
-pub rest-none : (handed d : List ℕ) (i : ℕ) → records d ≤ i → rest handed d i ≡ []
+pub rest-none : (m : Memory) (d : List ℕ) (i : ℕ) → records d ≤ i → rest m d i ≡ []
 unfolding rest shownFrom
-rest-none handed d i l = let e : records d - i ≡ 0 = omega arith in rw e
+rest-none m d i l = let e : records d - i ≡ 0 = omega arith in rw e
 
 -- with nothing left to show, no place is needed, and what is written stays
-pub bytes-none : (handed d : List ℕ) (i : ℕ) → records d ≤ i → length (bytesOf (rest handed d i)) ≡ 0
+pub bytes-none : (m : Memory) (d : List ℕ) (i : ℕ) → records d ≤ i → length (bytesOf (rest m d i)) ≡ 0
 unfolding bytesOf
-bytes-none handed d i l = rw (rest-none handed d i l)
+bytes-none m d i l = rw (rest-none m d i l)
 
-pub written-all : (handed d : List ℕ) (i : ℕ) (out : List ℕ) (at : ℕ) → records d ≤ i → sets out at (bytesOf (rest handed d i)) ≡ out
+pub written-all : (m : Memory) (d : List ℕ) (i : ℕ) (out : List ℕ) (at : ℕ) → records d ≤ i → sets out at (bytesOf (rest m d i)) ≡ out
 unfolding bytesOf
-written-all handed d i out at l = rw (rest-none handed d i l)
+written-all m d i out at l = rw (rest-none m d i l)
 
-rest-next : (handed d : List ℕ) (i : ℕ) → i < records d
-    → rest handed d i ≡ cond (shows handed d i) (recordAt d i ∷ rest (handedAfter handed d i) d (i + 1)) (rest (handedAfter handed d i) d (i + 1))
+rest-next : (m : Memory) (d : List ℕ) (i : ℕ) → i < records d
+    → rest m d i ≡ cond (shows m d i) (recordAt d i ∷ rest (after m d i) d (i + 1)) (rest (after m d i) d (i + 1))
 unfolding rest shownFrom
-rest-next handed d i l = let e : records d - i ≡ suc (records d - (i + 1)) = omega arith in rw (e, add-one)
+rest-next m d i l = let e : records d - i ≡ suc (records d - (i + 1)) = omega arith in rw (e, add-one)
 
 -- no more are shown than there are
-shown-few : (handed d : List ℕ) (i n : ℕ) → length (shownFrom handed d i n) ≤ n
+shown-few : (m : Memory) (d : List ℕ) (i n : ℕ) → length (shownFrom m d i n) ≤ n
 unfolding shownFrom
-shown-few handed d i zero = omega arith
-shown-few handed d i (suc n) = go (shows handed d i) (recordAt d i) _ (shown-few (handedAfter handed d i) d (suc i) n)
+shown-few m d i zero = omega arith
+shown-few m d i (suc n) = go (shows m d i) (recordAt d i) _ (shown-few (after m d i) d (suc i) n)
   where
     go : (b : Bool) (r : List ℕ) (rs : List (List ℕ)) → length rs ≤ n → length (cond b (r ∷ rs) rs) ≤ suc n
     go true r rs h = omega arith
@@ -52,14 +52,14 @@ shown-few handed d i (suc n) = go (shows handed d i) (recordAt d i) _ (shown-few
 
 pub few : (d : List ℕ) → length (shownOf d) ≤ records d
 unfolding shownOf
-few d = shown-few handedFirst d 0 (records d)
+few d = shown-few atFirst d 0 (records d)
 
 -- shown records are whole
-shown-long : (handed d : List ℕ) (i n : ℕ) → i + n ≤ records d → length (bytesOf (shownFrom handed d i n)) ≡ length (shownFrom handed d i n) * width
+shown-long : (m : Memory) (d : List ℕ) (i n : ℕ) → i + n ≤ records d → length (bytesOf (shownFrom m d i n)) ≡ length (shownFrom m d i n) * width
 unfolding shownFrom bytesOf
-shown-long handed d i zero l = refl
-shown-long handed d i (suc n) l =
-    go (shows handed d i) (recordAt d i) _ (record-long d i (omega arith)) (shown-long (handedAfter handed d i) d (suc i) n (omega arith))
+shown-long m d i zero l = refl
+shown-long m d i (suc n) l =
+    go (shows m d i) (recordAt d i) _ (record-long d i (omega arith)) (shown-long (after m d i) d (suc i) n (omega arith))
   where
     go : (b : Bool) (r : List ℕ) (rs : List (List ℕ)) → length r ≡ width → length (joined (λ x. x) rs) ≡ length rs * width
         → length (joined (λ x. x) (cond b (r ∷ rs) rs)) ≡ length (cond b (r ∷ rs) rs) * width
@@ -68,7 +68,7 @@ shown-long handed d i (suc n) l =
 
 pub bytes-long : (d : List ℕ) → length (bytesOf (shownOf d)) ≡ length (shownOf d) * width
 unfolding shownOf
-bytes-long d = shown-long handedFirst d 0 (records d) (omega arith)
+bytes-long d = shown-long atFirst d 0 (records d) (omega arith)
 
 -- ---- the bytes of one record
 
@@ -84,28 +84,28 @@ module _ (d : List ℕ) (i : ℕ) {b : Bool} where
   pub shown-width : i < records d → b ≡ true → length (bytesIf b d i) ≡ width
   shown-width l e = ap length (shown-bytes e) ∙ record-long d i l
 
--- ---- one record, where the test said `b` and left `handed′`
+-- ---- one record, where the test said `b` and left `m′`
 
-module _ (handed d : List ℕ) (i : ℕ) {handed′ : List ℕ} {b : Bool} (l : i < records d) (p : b ≡ shows handed d i) (q : handed′ ≡ handedAfter handed d i) where
-  pub counted-next : length (rest handed d i) ≡ cond b 1 0 + length (rest handed′ d (i + 1))
-  counted-next = ap length (rest-next handed d i l) ∙ rw (← p, ← q) (go b (recordAt d i) (rest handed′ d (i + 1)))
+module _ (m : Memory) (d : List ℕ) (i : ℕ) {m′ : Memory} {b : Bool} (l : i < records d) (p : b ≡ shows m d i) (q : m′ ≡ after m d i) where
+  pub counted-next : length (rest m d i) ≡ cond b 1 0 + length (rest m′ d (i + 1))
+  counted-next = ap length (rest-next m d i l) ∙ rw (← p, ← q) (go b (recordAt d i) (rest m′ d (i + 1)))
     where
       go : (t : Bool) (r : List ℕ) (rs : List (List ℕ)) → length (cond t (r ∷ rs) rs) ≡ cond t 1 0 + length rs
       go true r rs = omega arith
       go false r rs = omega arith
 
-  pub bytes-next : bytesOf (rest handed d i) ≡ bytesIf b d i ++ bytesOf (rest handed′ d (i + 1))
+  pub bytes-next : bytesOf (rest m d i) ≡ bytesIf b d i ++ bytesOf (rest m′ d (i + 1))
   unfolding bytesOf bytesIf
-  bytes-next = ap bytesOf (rest-next handed d i l) ∙ rw (← p, ← q) (go b (recordAt d i) (rest handed′ d (i + 1)))
+  bytes-next = ap bytesOf (rest-next m d i l) ∙ rw (← p, ← q) (go b (recordAt d i) (rest m′ d (i + 1)))
     where
       go : (t : Bool) (r : List ℕ) (rs : List (List ℕ)) → joined (λ x. x) (cond t (r ∷ rs) rs) ≡ cond t r [] ++ joined (λ x. x) rs
       go true r rs = refl
       go false r rs = refl
 
-  pub length-next : length (bytesOf (rest handed d i)) ≡ length (bytesIf b d i) + length (bytesOf (rest handed′ d (i + 1)))
-  length-next = ap length bytes-next ∙ length-append (bytesIf b d i) (bytesOf (rest handed′ d (i + 1)))
+  pub length-next : length (bytesOf (rest m d i)) ≡ length (bytesIf b d i) + length (bytesOf (rest m′ d (i + 1)))
+  length-next = ap length bytes-next ∙ length-append (bytesIf b d i) (bytesOf (rest m′ d (i + 1)))
 
   -- what is left to write, written from its place on
   pub written-next : (out : List ℕ) (at : ℕ) {out′ : List ℕ} {at′ : ℕ} → out′ ≡ sets out at (bytesIf b d i) → at′ ≡ at + length (bytesIf b d i)
-      → sets out′ at′ (bytesOf (rest handed′ d (i + 1))) ≡ sets out at (bytesOf (rest handed d i))
-  written-next out at s t = rw (s, t, bytes-next) (sets-more out at (bytesIf b d i) (bytesOf (rest handed′ d (i + 1))))
+      → sets out′ at′ (bytesOf (rest m′ d (i + 1))) ≡ sets out at (bytesOf (rest m d i))
+  written-next out at s t = rw (s, t, bytes-next) (sets-more out at (bytesIf b d i) (bytesOf (rest m′ d (i + 1))))

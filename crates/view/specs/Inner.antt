@@ -1,37 +1,59 @@
 -- What the functions inside the view promise each other. A reader of what the view promises may skip it. Assumes nothing: these are definitions.
 use Prim.Native.Nat.{ℕ, zero, suc}
 use mathlib.Core.List.{List, [], _∷_}
-use mathlib.Core.Bool.{Bool, cond}
+use mathlib.Core.Bool.{Bool, false, cond}
 use lib.ListN.{replicate}
-use lib.Dec.{eqb}
+use lib.Dec.{ltb, eqb}
 use Rattle.dossier.specs.Limits.{deepest}
 use Rattle.dossier.specs.Elements.{decisionNumber}
 use Rattle.dossier.specs.Bytes.{records, byteOf, recordAt, joined, depthAt}
 use Rattle.dossier.specs.declared.Decision.the-variants.{Permit}
 use Rattle.marks.specs.Lent.{lentAnswer, lentAfter}
 
--- is record i shown, where `handed` is what each open depth hands down
-unfoldable pub shows : List ℕ → List ℕ → ℕ → Bool
-shows handed d i = eqb (lentAnswer handed (depthAt d i) (byteOf d i 1) (byteOf d i 2)) (decisionNumber Permit)
+-- what a pass remembers before a record: a record deeper than the limit lies below a hidden one; and what each open depth up to the limit hands down
+pub record Memory : Type 0 where
+  pub limit : ℕ
+  pub handed : List ℕ
 
--- what each hands down after record i
-unfoldable pub handedAfter : List ℕ → List ℕ → ℕ → List ℕ
-handedAfter handed d i = lentAfter handed (depthAt d i) (byteOf d i 1) (byteOf d i 2)
+abbrev pub memory : List ℕ → ℕ → Memory
+memory handed limit = record { limit = limit; handed = handed }
 
--- before the first record: none
-abbrev pub handedFirst : List ℕ
-handedFirst = replicate (suc deepest) 2
+-- a limit deeper than every record: nothing above is hidden
+abbrev pub noLimit : ℕ
+noLimit = suc deepest
+
+-- before the first record nothing is hidden, and none is handed down
+abbrev pub atFirst : Memory
+atFirst = memory (replicate (suc deepest) 2) noLimit
+
+-- does record i lie below a hidden one
+unfoldable pub hidden : Memory → List ℕ → ℕ → Bool
+hidden m d i = ltb (m .limit) (depthAt d i)
+
+-- does the walk answer it with permit, where it doesn't
+unfoldable pub permitted : Memory → List ℕ → ℕ → Bool
+permitted m d i = eqb (lentAnswer (m .handed) (depthAt d i) (byteOf d i 1) (byteOf d i 2)) (decisionNumber Permit)
+
+-- is it shown
+unfoldable pub shows : Memory → List ℕ → ℕ → Bool
+shows m d i = cond (hidden m d i) false (permitted m d i)
+
+-- what is remembered after it: one below a hidden record changes nothing, a permitted one lifts the limit, and any other sets it to its depth
+unfoldable pub after : Memory → List ℕ → ℕ → Memory
+after m d i =
+    cond (hidden m d i) m
+    (memory (lentAfter (m .handed) (depthAt d i) (byteOf d i 1) (byteOf d i 2)) (cond (permitted m d i) noLimit (depthAt d i)))
 
 -- those of the n records from record i on that are shown
-unfoldable pub shownFrom : List ℕ → List ℕ → ℕ → ℕ → List (List ℕ)
-shownFrom handed d i zero = []
-shownFrom handed d i (suc n) =
-    let rest = shownFrom (handedAfter handed d i) d (suc i) n in
-    cond (shows handed d i) (recordAt d i ∷ rest) rest
+unfoldable pub shownFrom : Memory → List ℕ → ℕ → ℕ → List (List ℕ)
+shownFrom m d i zero = []
+shownFrom m d i (suc n) =
+    let rest = shownFrom (after m d i) d (suc i) n in
+    cond (shows m d i) (recordAt d i ∷ rest) rest
 
 -- the records that are shown
 unfoldable pub shownOf : List ℕ → List (List ℕ)
-shownOf d = shownFrom handedFirst d 0 (records d)
+shownOf d = shownFrom atFirst d 0 (records d)
 
 -- the bytes of shown records
 unfoldable pub bytesOf : List (List ℕ) → List ℕ

@@ -1,10 +1,12 @@
 -- The recipient's view: which elements belong in it, what is replied, and what the area then holds. Assumes nothing: these are definitions.
 use mathlib.Core.Path.{_≡_}
 use Prim.Native.Nat.{ℕ, suc}
+use mathlib.Core.Bool.{true}
 use mathlib.Core.List.{List, [], _∷_}
 use lib.ListN.{length, getD}
 use Rattle.dossier.specs.Elements.{Element, marksOf}
 use Rattle.dossier.specs.Bytes.{recordsOf, joined, elementsOf}
+use Rattle.dossier.specs.Below.{covers}
 use Rattle.dossier.specs.Replies.{afterwards, roomFor, fronted}
 use Rattle.dossier.specs.Reading.{readOf}
 use Rattle.dossier.specs.declared.Decision.{Decision}
@@ -14,9 +16,9 @@ use Rattle.dossier.specs.declared.Reply.the-variants.{Count, Refused}
 use Rattle.marks.specs.Marks.{first}
 use Rattle.marks.specs.Walking.{walked}
 
--- element i belongs in the view, where the walk over the marks gives these answers: it is permitted
+-- element i belongs in the view, where the walk over the marks gives these answers: it and all elements above it are permitted
 abbrev pub Belongs : List Element → List Decision → ℕ → Type 0
-Belongs es answers i = getD answers i None ≡ Permit
+Belongs es answers i = (t : ℕ) → covers es t i ≡ true → getD answers t None ≡ Permit
 
 -- `out` are exactly those of the records, the first at position i, whose position has P, in their order
 pub data Keeps (P : ℕ → Type 0) : ℕ → List (List ℕ) → List (List ℕ) → Type 0 where

@@ -10,20 +10,28 @@ ghost use lib.Seq.{sets};
 ghost use Rattle.dossier.specs.Limits.{width};
 ghost use Rattle.dossier.specs.Bytes.{records, recordAt};
 ghost use Rattle.view.specs.View.{Views};
-ghost use Rattle.view.specs.Inner.{shows, handedAfter, shownOf, bytesIf, bytesOf};
+ghost use Rattle.view.specs.Inner.{memory, shows, after, shownOf, bytesIf, bytesOf};
 
 // The number of the answer permit.
 const PERMIT: u8 = 1;
 
-// Whether record i belongs in the view. `handed` is what each open depth hands down, and its own then hands down what its mark says.
-fn shown(d: &[u8], i: usize, handed: &mut [u8]) -> bool
+// Whether record i belongs in the view. A record deeper than `limit` lies below a hidden one, and is hidden. Any other is answered by the walk, and with that the limit is lifted, or set to its depth.
+fn shown(d: &[u8], i: usize, handed: &mut [u8], limit: &mut usize) -> bool
     requires { ⌜ i < records (now d) ⌝ }
-    ensures { λ r. ⌜ (r ≡ shows (now (handed .entry)) (now (d .entry)) i) × (now (handed .exit) ≡ handedAfter (now (handed .entry)) (now (d .entry)) i) ⌝ }
+    ensures { λ r. ⌜ (r ≡ shows (memory (now (handed .entry)) (now (limit .entry))) (now (d .entry)) i) × (memory (now (handed .exit)) (now (limit .exit)) ≡ after (memory (now (handed .entry)) (now (limit .entry))) (now (d .entry)) i) ⌝ }
 {
     let at = i * WIDTH;
     let depth = d[at] as usize;
+    if depth > *limit {
+        return false;
+    }
     let answer = marks::hand_on(handed, depth, d[at + 1], d[at + 2]);
-    answer == PERMIT
+    if answer == PERMIT {
+        *limit = DEPTHS;
+        return true;
+    }
+    *limit = depth;
+    false
 }
 
 // How many records are shown.
@@ -32,10 +40,11 @@ fn count(d: &[u8]) -> usize
 {
     let n = d.len() / WIDTH;
     let mut handed = [2u8; DEPTHS];
+    let mut limit: usize = DEPTHS;
     let mut sum: usize = 0;
     let mut i: usize = 0;
     while i < n {
-        if shown(d, i, &mut handed) {
+        if shown(d, i, &mut handed, &mut limit) {
             sum += 1;
         }
         i += 1;
@@ -96,10 +105,11 @@ fn copy(d: &[u8], out: &mut [u8]) -> usize
 {
     let n = d.len() / WIDTH;
     let mut handed = [2u8; DEPTHS];
+    let mut limit: usize = DEPTHS;
     let mut at: usize = 0;
     let mut i: usize = 0;
     while i < n {
-        let belongs = shown(d, i, &mut handed);
+        let belongs = shown(d, i, &mut handed, &mut limit);
         at = put_if(belongs, d, i, &mut *out, at);
         i += 1;
     }

@@ -6,17 +6,17 @@ use native.Mathlib.Nat.{zero-add}
 use native.Mathlib.Omega.{arith}
 use lib.ListN.{length}
 use Rattle.dossier.specs.Bytes.{records}
-use Rattle.view.specs.Inner.{handedFirst, shownOf}
+use Rattle.view.specs.Inner.{memory, atFirst, shownOf}
 use Rattle.view.proofs.Passes.{rest, rest-first, rest-none, counted-next}
 use Rattle.view.proofs.count.Statement.{statement}
 use Rattle.view.proofs.count.Tie as tie
 
 abbrev Inv-loop : tie.InvT-loop
-Inv-loop d n handed₀ sum₀ i₀ handed sum i =
-    (i ≤ records d) × (sum ≤ i) × (length handed ≡ length handedFirst) × (sum + length (rest handed d i) ≡ length (shownOf d))
+Inv-loop d n handed₀ limit₀ sum₀ i₀ handed limit sum i =
+    (i ≤ records d) × (sum ≤ i) × (length handed ≡ length (atFirst .handed)) × (sum + length (rest (memory handed limit) d i) ≡ length (shownOf d))
 
 abbrev μ-loop : tie.MeasureT-loop
-μ-loop d n handed₀ sum₀ i₀ handed sum i = records d - i
+μ-loop d n handed₀ limit₀ sum₀ i₀ handed limit sum i = records d - i
 
 loop-holds : tie.Need-loop-holds Inv-loop μ-loop
 loop-holds c = (omega arith, omega arith, refl, rw (zero-add, rest-first (c .before .args .d .now)))
@@ -25,7 +25,7 @@ slice-aggregate-shown : tie.Need-slice-aggregate-shown Inv-loop μ-loop
 slice-aggregate-shown c = sym (c .before .before .loop .inv .2)
 
 shown-requires : tie.Need-shown-requires Inv-loop μ-loop
-shown-requires c κs = c .before .loop-test .taken
+shown-requires c κs = c .before .before .loop-test .taken
 
 add-sum : tie.Need-add-sum Inv-loop μ-loop
 add-sum c = omega arith
@@ -38,10 +38,10 @@ loop-less c = omega arith
 
 loop-again : tie.Need-loop-again Inv-loop μ-loop
 loop-again c =
-    let at = c .before .before .before .before .before .loop in
-    let d = c .before .before .before .before .before .before .before .args .d .now in
+    let at = c .before .before .before .before .before .before .loop in
+    let d = c .before .before .before .before .before .before .before .before .args .d .now in
     let shown = c .before .before .shown in
-    let e = counted-next (at .handed) d (at .i) (c .before .before .before .before .loop-test .taken) (shown .ensures .0) (shown .ensures .1) in
+    let e = counted-next (memory (at .handed) (at .limit)) d (at .i) (c .before .before .before .before .before .loop-test .taken) (shown .ensures .0) (shown .ensures .1) in
     ⊎-elim
     (λ w. (omega arith, omega (arith, w .1), shown .kept .1 .1 .0 ∙ at .inv .2, omega (arith, rw (w .0 .taken) at e, w .1)))
     (λ w. (omega arith, omega (arith, w .1), shown .kept .1 .1 .0 ∙ at .inv .2, omega (arith, rw (w .0 .left) at e, w .1)))
@@ -50,7 +50,7 @@ loop-again c =
 returns : tie.Need-returns Inv-loop μ-loop
 returns c =
     let at = c .before .loop in
-    omega (arith, at .inv .3, ap length (rest-none (at .handed) (c .before .before .before .args .d .now) (at .i) (c .loop-test .left)))
+    omega (arith, at .inv .3, ap length (rest-none (memory (at .handed) (at .limit)) (c .before .before .before .args .d .now) (at .i) (c .loop-test .left)))
 
 pub count-spec : {M : Type 1} → statement M
 count-spec =

@@ -1,9 +1,9 @@
 -- `view::shown` meets its contract. Assumes nothing.
-use mathlib.Core.Path.{ap}
-use Prim.Native.Nat.{ℕ, _*_}
+use mathlib.Core.Path.{sym}
+use Prim.Native.Nat.{_*_}
 use native.Mathlib.Omega.{arith}
-use lib.Dec.{eqb}
-use Rattle.view.specs.Inner.{shows, handedAfter}
+use Rattle.view.specs.Inner.{memory}
+use Rattle.view.proofs.Remembering.{below-hidden, lets-in, keeps-out}
 use borrow.Author.Needs.{needs}
 use Rattle.view.proofs.shown.Statement.{statement}
 use Rattle.view.proofs.shown.Tie as tie
@@ -36,8 +36,27 @@ same-length : tie.Need-same-length
 same-length c = search needs
 
 returns : tie.Need-returns
-unfolding shows handedAfter
-returns c = (ap (λ (x : ℕ). eqb x 1) (c .before .before .hand-on .ensures .0), c .before .before .hand-on .ensures .1)
+returns c =
+    let s = c .before .before .before .before .before .args in
+    let e = below-hidden (memory (s .handed .now) (s .limit .now)) (s .d .now) (s .i) (omega arith) in
+    (sym (e .0), sym (e .1))
+
+returns-2 : tie.Need-returns-2
+returns-2 c =
+    let s = c .before .before .before .before .before .before .before .before .before .before .before .before .args in
+    let hand-on = c .before .before .before .hand-on .ensures in
+    let e = lets-in (memory (s .handed .now) (s .limit .now)) (s .d .now) (s .i) (omega arith) (omega (arith, hand-on .0)) in
+    (sym (e .0), rw (hand-on .1) (sym (e .1)))
+
+same-length-2 : tie.Need-same-length-2
+same-length-2 c = search needs
+
+returns-3 : tie.Need-returns-3
+returns-3 c =
+    let s = c .before .before .before .before .before .before .before .before .before .before .before .before .args in
+    let hand-on = c .before .before .before .hand-on .ensures in
+    let e = keeps-out (memory (s .handed .now) (s .limit .now)) (s .d .now) (s .i) (omega arith) (λ q. omega (arith, hand-on .0)) in
+    (sym (e .0), rw (hand-on .1) (sym (e .1)))
 
 pub shown-spec : {M : Type 1} → statement M
 shown-spec =
@@ -46,10 +65,13 @@ shown-spec =
     mul-at
     shared-slice-read-depth
     cast-depth
+    returns
     add-hand-on
     shared-slice-read-hand-on
     add-hand-on-2
     shared-slice-read-hand-on-2
     hand-on-requires
     same-length
-    returns)
+    returns-2
+    same-length-2
+    returns-3)

@@ -1,0 +1,104 @@
+-- The positions of the records that a pass shows: they are the dossier's, and the depths there are in order. Assumes nothing.
+use mathlib.Core.Path.{_≡_, refl, ap}
+use mathlib.Core.Logic.{_⊎_, inl, inr}
+use Prim.Native.Nat.{ℕ, zero, suc, _+_, _≤_, _<_}
+use native.Mathlib.Omega.{arith}
+use mathlib.Core.Bool.{Bool, true, false, cond}
+use mathlib.Core.List.{List, [], _∷_, map}
+use lib.ListN.{length, getD}
+use Rattle.dossier.specs.Bytes.{records, byteOf, recordAt, depthAt, elementAt}
+use Rattle.dossier.specs.Order.{Follows, Ordered}
+use Rattle.dossier.specs.Reading.{lowAt, highAt, faultAt, Sound}
+use Rattle.dossier.proofs.Sounds.{Free, free, no-fault}
+use Rattle.view.specs.Inner.{Memory, atFirst, shows, after, shownFrom}
+use Rattle.view.proofs.Remembering.{below-hidden, lets-in, keeps-out, Turn, passed, let-in, kept-out, turn}
+
+-- the positions of those of the n records from record i on that are shown
+unfoldable pub places : Memory → List ℕ → ℕ → ℕ → List ℕ
+places m d i zero = []
+places m d i (suc n) =
+    let rest = places (after m d i) d (suc i) n in
+    cond (shows m d i) (i ∷ rest) rest
+
+pub places-shown : (m : Memory) (d : List ℕ) (i n : ℕ) → map (recordAt d) (places m d i n) ≡ shownFrom m d i n
+unfolding places shownFrom
+places-shown m d i zero = refl
+places-shown m d i (suc n) = go (shows m d i) _ _ (places-shown (after m d i) d (suc i) n)
+  where
+    go : (b : Bool) (ps : List ℕ) (rs : List (List ℕ)) → map (recordAt d) ps ≡ rs → map (recordAt d) (cond b (i ∷ ps) ps) ≡ cond b (recordAt d i ∷ rs) rs
+    go true ps rs q = ap {B = List (List ℕ)} (λ rs. recordAt d i ∷ rs) q
+    go false ps rs q = q
+
+-- they are there
+pub places-there : (m : Memory) (d : List ℕ) (i n most : ℕ) → i + n ≤ most → (k : ℕ) → k < length (places m d i n) → getD (places m d i n) k 0 < most
+unfolding places
+places-there m d i zero most l k h = absurd (omega arith)
+places-there m d i (suc n) most l k h = go (shows m d i) _ (places-there (after m d i) d (suc i) n most (omega arith)) k h
+  where
+    go : (b : Bool) (ps : List ℕ) → ((k : ℕ) → k < length ps → getD ps k 0 < most) → (k : ℕ) → k < length (cond b (i ∷ ps) ps) → getD (cond b (i ∷ ps) ps) k 0 < most
+    go true ps f zero h = omega arith
+    go true ps f (suc k) h = f k (omega arith)
+    go false ps f k h = f k h
+
+-- ---- their depths
+
+-- a record of a sound dossier
+at-place : (d : List ℕ) (i : ℕ) → Sound d → i < records d → Free (lowAt i) (highAt d i) (depthAt d i) (byteOf d i 1) (byteOf d i 2) (byteOf d i 3)
+unfolding faultAt
+at-place d i s l = free _ _ _ _ _ _ (no-fault d s i l)
+
+-- what can be shown at record i is at most one deeper than j
+abbrev Near : Memory → List ℕ → ℕ → ℕ → Type 0
+Near m d i j = (k : ℕ) → k ≤ m .limit → k ≤ highAt d i → k ≤ suc j
+
+-- one record more
+by : (m : Memory) (d : List ℕ) (i n : ℕ) (P : List ℕ → Type 0) {b : Bool} {m′ : Memory} → (shows m d i ≡ b) × (after m d i ≡ m′)
+    → P (cond b (i ∷ places m′ d (suc i) n) (places m′ d (suc i) n)) → P (places m d i (suc n))
+unfolding places
+by m d i n P e p = rw (e .0, e .1) p
+
+places-follow : (m : Memory) (d : List ℕ) (i n j : ℕ) → Sound d → suc i + n ≤ records d → Near m d (suc i) j → Follows j (map (elementAt d) (places m d (suc i) n))
+unfolding places lowAt highAt
+places-follow m d i zero j s l near = tt
+places-follow m d i (suc n) j s l near = go (turn m d (suc i)) (λ m′ j′ near′. places-follow m′ d (suc i) n j′ s (omega arith) near′)
+  where
+    at : Free (lowAt (suc i)) (highAt d (suc i)) (depthAt d (suc i)) (byteOf d (suc i) 1) (byteOf d (suc i) 2) (byteOf d (suc i) 3)
+    at = at-place d (suc i) s (omega arith)
+
+    go : Turn m d (suc i) → ((m′ : Memory) (j′ : ℕ) → Near m′ d (suc (suc i)) j′ → Follows j′ (map (elementAt d) (places m′ d (suc (suc i)) n)))
+        → Follows j (map (elementAt d) (places m d (suc i) (suc n)))
+    go (passed h) ih =
+        by m d (suc i) n (λ ps. Follows j (map (elementAt d) ps)) (below-hidden m d (suc i) h)
+        (ih m j (λ k a b. omega (arith, near (m .limit) (omega arith) (omega (arith, at .most)))))
+    go (let-in h e) ih =
+        by m d (suc i) n (λ ps. Follows j (map (elementAt d) ps)) (lets-in m d (suc i) h e)
+        (at .least, near (depthAt d (suc i)) h (at .most), ih _ (depthAt d (suc i)) (λ k a b. omega arith))
+    go (kept-out h e) ih =
+        by m d (suc i) n (λ ps. Follows j (map (elementAt d) ps)) (keeps-out m d (suc i) h e)
+        (ih _ j (λ k a b. omega (arith, near (depthAt d (suc i)) h (at .most))))
+
+-- under a hidden root nothing is shown
+none-follow : (m : Memory) (d : List ℕ) (i n : ℕ) → Sound d → suc i + n ≤ records d → m .limit ≡ 0 → places m d (suc i) n ≡ []
+unfolding places lowAt
+none-follow m d i zero s l e = refl
+none-follow m d i (suc n) s l e =
+    by m d (suc i) n (λ ps. ps ≡ []) (below-hidden m d (suc i) (omega (arith, at-place d (suc i) s (omega arith) .least)))
+    (none-follow m d (suc i) n s (omega arith) e)
+
+-- nothing is shown, or the depths are in order
+pub places-ordered : (d : List ℕ) (n : ℕ) → Sound d → n ≤ records d → (places atFirst d 0 n ≡ []) ⊎ Ordered (map (elementAt d) (places atFirst d 0 n))
+unfolding places highAt
+places-ordered d zero s l = inl refl
+places-ordered d (suc n) s l = go (turn atFirst d 0)
+  where
+    root : depthAt d 0 ≡ 0
+    root = omega (arith, at-place d 0 s (omega arith) .most)
+
+    go : Turn atFirst d 0 → (places atFirst d 0 (suc n) ≡ []) ⊎ Ordered (map (elementAt d) (places atFirst d 0 (suc n)))
+    go (passed h) = let z : ⊥ = omega (arith, root) in absurd z
+    go (let-in h e) =
+        by atFirst d 0 n (λ ps. (ps ≡ []) ⊎ Ordered (map (elementAt d) ps)) (lets-in atFirst d 0 h e)
+        (inr (root, places-follow _ d 0 n 0 s (omega arith) (λ k a b. omega (arith, root))))
+    go (kept-out h e) =
+        by atFirst d 0 n (λ ps. (ps ≡ []) ⊎ Ordered (map (elementAt d) ps)) (keeps-out atFirst d 0 h e)
+        (inl (none-follow _ d 0 n s (omega arith) root))
