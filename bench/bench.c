@@ -115,25 +115,19 @@ static uint64_t c_judge(void) { return base_judge(marked, size); }
 static uint64_t lib_view(void) { return nv_view(opened, size, out, sizeof out); }
 static uint64_t c_view(void) { return base_view(opened, size, out, sizeof out); }
 
-static uint64_t lib_steps(void)
+/* all records through one walk */
+static uint64_t steps(void (*fresh)(nv_walk *), uint64_t (*step)(nv_walk *, const uint8_t *, size_t))
 {
     nv_walk walk;
     uint64_t sum = 0;
-    nv_walk_fresh(&walk);
+    fresh(&walk);
     for (size_t i = 0; i < size; i += 8)
-        sum += nv_walk_step(&walk, marked + i, 8);
+        sum += step(&walk, marked + i, 8);
     return sum;
 }
 
-static uint64_t c_steps(void)
-{
-    nv_walk walk;
-    uint64_t sum = 0;
-    base_walk_fresh(&walk);
-    for (size_t i = 0; i < size; i += 8)
-        sum += base_walk_step(&walk, marked + i, 8);
-    return sum;
-}
+static uint64_t lib_steps(void) { return steps(nv_walk_fresh, nv_walk_step); }
+static uint64_t c_steps(void) { return steps(base_walk_fresh, base_walk_step); }
 
 static const struct {
     const char *name;

@@ -8,9 +8,9 @@ use lib.ListN.{length, replicate}
 use Rattle.dossier.specs.Limits.{deepest}
 use Rattle.dossier.specs.Elements.{effectOf, markOf}
 use Rattle.dossier.specs.Bytes.{records, byteOf, depthAt}
-use Rattle.dossier.specs.Reading.{highAt, faultAt, Sound}
+use Rattle.dossier.specs.Reading.{highAt, Sound}
 use Rattle.dossier.specs.declared.Decision.{Decision}
-use Rattle.dossier.proofs.Sounds.{free, no-fault}
+use Rattle.dossier.proofs.Sounds.{sound-free}
 use Rattle.marks.specs.Marks.{firstHand}
 use Rattle.marks.specs.Walking.{above, close}
 use Rattle.marks.specs.Lent.{lentAfter}
@@ -29,8 +29,7 @@ stands-first d = record { long = refl; opened = refl; holds = holds-none (replic
 module _ {d handed : List ℕ} {i : ℕ} {st : List Decision} (at : Stands d i handed st) (s : Sound d) (l : i < records d) where
   -- the depth of element i is open, or the next to be
   pub stands-under : depthAt d i ≤ length st
-  unfolding faultAt
-  stands-under = omega (arith, free _ _ _ _ _ _ (no-fault d s i l) .most, at .opened)
+  stands-under = omega (arith, sound-free d s i l .most, at .opened)
 
   -- after element i, whatever its mark
   pub stands-next : (mark : ℕ)

@@ -3,7 +3,7 @@ use mathlib.Core.Path.{_≡_, refl, sym, ap, _∙_}
 use mathlib.Core.Logic.{_≢_, ⊎-elim}
 use Prim.Native.Nat.{ℕ, zero, suc, _*_, _≤_, _<_}
 use native.Mathlib.Omega.{arith}
-use mathlib.Core.Bool.{true, and-eq-true-iff}
+use mathlib.Core.Bool.{Bool, true, false, cond, and-eq-true-iff}
 use mathlib.Core.List.{List, [], _∷_, _++_, map}
 use lib.ListN.{length, take, getD, length-map}
 use lib.Seq.{take-append-seam}
@@ -14,6 +14,7 @@ use Rattle.dossier.specs.Elements.{Element, marksOf}
 use Rattle.dossier.specs.Bytes.{records, recordAt, recordsOf, joined, elementAt, elementsOf}
 use Rattle.dossier.specs.Order.{Follows, Ordered}
 use Rattle.dossier.specs.Below.{deeper, covers}
+use Rattle.dossier.specs.Replies.{refusal, roomFor}
 use Rattle.dossier.specs.Reading.{readOf, Sound}
 use Rattle.dossier.specs.declared.Decision.the-variants.{Permit, None}
 use Rattle.dossier.specs.declared.Reply.{Reply}
@@ -27,7 +28,6 @@ use Rattle.view.specs.Inner.{atFirst, shownOf, bytesOf}
 use Rattle.view.specs.Again.{Again}
 use Rattle.view.proofs.Keeping.{keeps-unique, keeps-none}
 use Rattle.view.proofs.Passes.{few, bytes-long}
-use Rattle.view.proofs.Few.{room-count}
 use Rattle.view.proofs.Belongs.{shown-view}
 use Rattle.view.proofs.Places.{places, places-shown, places-there, places-ordered}
 use Rattle.view.proofs.Taken.{taken-sound}
@@ -96,6 +96,15 @@ module _ (d : List ℕ) (s : Sound d) (shown : List (List ℕ)) (v : IsView d sh
       }
 
 -- ---- what was written is read again
+
+-- a count is that of the records to be written
+room-count : (m : ℕ) (area : List ℕ) {n : ℕ} → Count n ≡ roomFor m area → n ≡ m
+unfolding roomFor
+room-count m area {n} e = go (ltb (length area) (m * width)) e
+  where
+    go : (short : Bool) → Count n ≡ cond short (refusal 8 0 0) (Count m) → n ≡ m
+    go true e = let z : _≡_ {A = ℕ} 0 1 = cc in let y : ⊥ = omega arith in absurd y
+    go false e = cc
 
 after-again : (read : Reply) (d area : List ℕ) (n : ℕ) (new : List ℕ) → readOf d ≡ read → ViewedAfter read d area (Count n) new → 0 < n
     → readOf (take (n * width) new) ≡ Count n

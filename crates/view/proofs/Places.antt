@@ -8,8 +8,8 @@ use mathlib.Core.List.{List, [], _∷_, map}
 use lib.ListN.{length, getD}
 use Rattle.dossier.specs.Bytes.{records, byteOf, recordAt, depthAt, elementAt}
 use Rattle.dossier.specs.Order.{Follows, Ordered}
-use Rattle.dossier.specs.Reading.{lowAt, highAt, faultAt, Sound}
-use Rattle.dossier.proofs.Sounds.{Free, free, no-fault}
+use Rattle.dossier.specs.Reading.{lowAt, highAt, Sound}
+use Rattle.dossier.proofs.Sounds.{Free, sound-free}
 use Rattle.view.specs.Inner.{Memory, atFirst, shows, after, shownFrom}
 use Rattle.view.proofs.Remembering.{below-hidden, lets-in, keeps-out, Turn, passed, let-in, kept-out, turn}
 
@@ -42,11 +42,6 @@ places-there m d i (suc n) most l k h = go (shows m d i) _ (places-there (after 
 
 -- ---- their depths
 
--- a record of a sound dossier
-at-place : (d : List ℕ) (i : ℕ) → Sound d → i < records d → Free (lowAt i) (highAt d i) (depthAt d i) (byteOf d i 1) (byteOf d i 2) (byteOf d i 3)
-unfolding faultAt
-at-place d i s l = free _ _ _ _ _ _ (no-fault d s i l)
-
 -- what can be shown at record i is at most one deeper than j
 abbrev Near : Memory → List ℕ → ℕ → ℕ → Type 0
 Near m d i j = (k : ℕ) → k ≤ m .limit → k ≤ highAt d i → k ≤ suc j
@@ -63,7 +58,7 @@ places-follow m d i zero j s l near = tt
 places-follow m d i (suc n) j s l near = go (turn m d (suc i)) (λ m′ j′ near′. places-follow m′ d (suc i) n j′ s (omega arith) near′)
   where
     at : Free (lowAt (suc i)) (highAt d (suc i)) (depthAt d (suc i)) (byteOf d (suc i) 1) (byteOf d (suc i) 2) (byteOf d (suc i) 3)
-    at = at-place d (suc i) s (omega arith)
+    at = sound-free d s (suc i) (omega arith)
 
     go : Turn m d (suc i) → ((m′ : Memory) (j′ : ℕ) → Near m′ d (suc (suc i)) j′ → Follows j′ (map (elementAt d) (places m′ d (suc (suc i)) n)))
         → Follows j (map (elementAt d) (places m d (suc i) (suc n)))
@@ -82,7 +77,7 @@ none-follow : (m : Memory) (d : List ℕ) (i n : ℕ) → Sound d → suc i + n 
 unfolding places lowAt
 none-follow m d i zero s l e = refl
 none-follow m d i (suc n) s l e =
-    by m d (suc i) n (λ ps. ps ≡ []) (below-hidden m d (suc i) (omega (arith, at-place d (suc i) s (omega arith) .least)))
+    by m d (suc i) n (λ ps. ps ≡ []) (below-hidden m d (suc i) (omega (arith, sound-free d s (suc i) (omega arith) .least)))
     (none-follow m d (suc i) n s (omega arith) e)
 
 -- nothing is shown, or the depths are in order
@@ -92,7 +87,7 @@ places-ordered d zero s l = inl refl
 places-ordered d (suc n) s l = go (turn atFirst d 0)
   where
     root : depthAt d 0 ≡ 0
-    root = omega (arith, at-place d 0 s (omega arith) .most)
+    root = omega (arith, sound-free d s 0 (omega arith) .most)
 
     go : Turn atFirst d 0 → (places atFirst d 0 (suc n) ≡ []) ⊎ Ordered (map (elementAt d) (places atFirst d 0 (suc n)))
     go (passed h) = let z : ⊥ = omega (arith, root) in absurd z

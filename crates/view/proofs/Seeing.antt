@@ -9,10 +9,10 @@ use lib.Seq.{take-take, getD-take, length-take-le}
 use Rattle.dossier.specs.Limits.{deepest}
 use Rattle.dossier.specs.Elements.{decisionNumber}
 use Rattle.dossier.specs.Bytes.{records, byteOf, depthAt, elementAt}
-use Rattle.dossier.specs.Reading.{highAt, faultAt, Sound}
+use Rattle.dossier.specs.Reading.{highAt, Sound}
 use Rattle.dossier.specs.declared.Decision.{Decision}
 use Rattle.dossier.specs.declared.Decision.the-variants.{None}
-use Rattle.dossier.proofs.Sounds.{free, no-fault}
+use Rattle.dossier.proofs.Sounds.{sound-free}
 use Rattle.marks.specs.Marks.{firstAnswer, firstHand}
 use Rattle.marks.specs.Walking.{above, close}
 use Rattle.marks.proofs.Opened.{close-length, close-agree}
@@ -41,8 +41,7 @@ module _ (d : List ℕ) (i : ℕ) {m : Memory} {st : List Decision} (at : Sees d
   next = close st (depthAt d i) hand
 
   under : depthAt d i ≤ length st
-  unfolding faultAt
-  under = omega (arith, free _ _ _ _ _ _ (no-fault d s i l) .most, at .opened)
+  under = omega (arith, sound-free d s i l .most, at .opened)
 
   opened-next : length next ≡ highAt d (suc i)
   unfolding highAt

@@ -10,7 +10,7 @@ use Rattle.dossier.specs.Bytes.{records, byteOf, recordAt, joined, depthAt}
 use Rattle.dossier.specs.declared.Decision.the-variants.{Permit}
 use Rattle.marks.specs.Lent.{lentAnswer, lentAfter}
 
--- what a pass remembers before a record: a record deeper than the limit lies below a hidden one; and what each open depth up to the limit hands down
+-- what a pass remembers before a record: the limit, which a record exceeds in depth exactly if it lies below a hidden one; and what each open depth hands down, as far as the limit
 pub record Memory : Type 0 where
   pub limit : ℕ
   pub handed : List ℕ
@@ -30,7 +30,7 @@ atFirst = memory (replicate (suc deepest) 2) noLimit
 unfoldable pub hidden : Memory → List ℕ → ℕ → Bool
 hidden m d i = ltb (m .limit) (depthAt d i)
 
--- does the walk answer it with permit, where it doesn't
+-- where it doesn't, does the walk answer it with permit
 unfoldable pub permitted : Memory → List ℕ → ℕ → Bool
 permitted m d i = eqb (lentAnswer (m .handed) (depthAt d i) (byteOf d i 1) (byteOf d i 2)) (decisionNumber Permit)
 
