@@ -70,34 +70,50 @@ static int below(const uint8_t *d, size_t upper, size_t lower)
 {
     if (lower < upper)
         return 0;
+    for (size_t i = upper + 1; i <= lower; i++)
+        if (d[i * 8] <= d[upper * 8])
+            return 0;
+    return 1;
+}
+
+/* The same as it was before request M-101: it reads every record between the two. */
+static int below_reading_all(const uint8_t *d, size_t upper, size_t lower)
+{
+    if (lower < upper)
+        return 0;
     int inside = 1;
     for (size_t i = upper + 1; i <= lower; i++)
         inside &= d[i * 8] > d[upper * 8];
     return inside;
 }
 
-static size_t first_applying(const uint8_t *d, const uint8_t *rules, size_t count, size_t element, unsigned wanted)
+static int applies(const uint8_t *d, const uint8_t *rule, size_t element, int all)
+{
+    size_t target = target_of(rule);
+    if (rule[3] == 0)
+        return target == element;
+    return all ? below_reading_all(d, target, element) : below(d, target, element);
+}
+
+static size_t first_applying(const uint8_t *d, const uint8_t *rules, size_t count, size_t element, unsigned wanted, int all)
 {
     for (size_t i = 0; i < count; i++) {
         const uint8_t *r = rules + i * 8;
-        if (wanted < 2 && r[2] != wanted)
-            continue;
-        size_t target = target_of(r);
-        if (r[3] == 0 ? target == element : below(d, target, element))
+        if ((wanted > 1 || r[2] == wanted) && applies(d, r, element, all))
             return i;
     }
     return count;
 }
 
 static size_t first_of_both(const uint8_t *d, const uint8_t *house, size_t h, const uint8_t *recipient, size_t r,
-                            size_t element, unsigned wanted)
+                            size_t element, unsigned wanted, int all)
 {
-    size_t k = first_applying(d, house, h, element, wanted);
-    return k < h ? k : h + first_applying(d, recipient, r, element, wanted);
+    size_t k = first_applying(d, house, h, element, wanted, all);
+    return k < h ? k : h + first_applying(d, recipient, r, element, wanted, all);
 }
 
-uint64_t base_decide(const uint8_t *d, size_t len, const uint8_t *house, size_t house_len, const uint8_t *recipient,
-                     size_t recipient_len, size_t combining, size_t element)
+static uint64_t decide(const uint8_t *d, size_t len, const uint8_t *house, size_t house_len, const uint8_t *recipient,
+                       size_t recipient_len, size_t combining, size_t element, int all)
 {
     uint64_t n = base_read(d, len);
     if (refused(n))
@@ -113,12 +129,24 @@ uint64_t base_decide(const uint8_t *d, size_t len, const uint8_t *house, size_t 
     if (element >= n)
         return refusal(10, 0, 0);
     unsigned over = combining == 0 ? 2 : (unsigned)combining - 1;
-    size_t k = first_of_both(d, house, h, recipient, r, element, over);
+    size_t k = first_of_both(d, house, h, recipient, r, element, over, all);
     if (k == h + r && over < 2)
-        k = first_of_both(d, house, h, recipient, r, element, 1 - over);
+        k = first_of_both(d, house, h, recipient, r, element, 1 - over, all);
     if (k == h + r)
         return 2;
     return (k < h ? house + k * 8 : recipient + (k - h) * 8)[2];
+}
+
+uint64_t base_decide(const uint8_t *d, size_t len, const uint8_t *house, size_t house_len, const uint8_t *recipient,
+                     size_t recipient_len, size_t combining, size_t element)
+{
+    return decide(d, len, house, house_len, recipient, recipient_len, combining, element, 0);
+}
+
+uint64_t base_decide_reading_all(const uint8_t *d, size_t len, const uint8_t *house, size_t house_len,
+                                 const uint8_t *recipient, size_t recipient_len, size_t combining, size_t element)
+{
+    return decide(d, len, house, house_len, recipient, recipient_len, combining, element, 1);
 }
 
 /* ---- marks */

@@ -6,6 +6,9 @@ uint64_t base_list(const uint8_t *d, size_t len, uint8_t *out, size_t out_len);
 uint64_t base_read_back(uint8_t *d, size_t len, const uint8_t *rules, size_t rules_len);
 uint64_t base_decide(const uint8_t *d, size_t len, const uint8_t *house, size_t house_len, const uint8_t *recipient,
                      size_t recipient_len, size_t combining, size_t element);
+/* the same by the test that reads every record between a target and the element, as before request M-101 */
+uint64_t base_decide_reading_all(const uint8_t *d, size_t len, const uint8_t *house, size_t house_len,
+                                 const uint8_t *recipient, size_t recipient_len, size_t combining, size_t element);
 void base_walk_fresh(nv_walk *walk);
 uint64_t base_walk_step(nv_walk *walk, const uint8_t *record, size_t record_len);
 uint64_t base_fold(uint8_t *d, size_t len);

@@ -1,5 +1,6 @@
 /* Times each C function beside the same work in plain C (baseline.c), in one binary and one run: the ratio of the two
- * times, and how the library's time grows when the number of elements doubles. Times alone say little, ratios more. */
+ * times, and how the library's time grows when the number of elements doubles; then what stopping early saves where one
+ * element is decided. Times alone say little, ratios more. */
 #include "baseline.h"
 
 long write(int, const void *, size_t);
@@ -95,7 +96,7 @@ static void make(uint8_t *d, size_t n, int shape, uint32_t denied)
 
 /* ---- what is timed: one call of each kind, by the library or by the baseline */
 
-static uint8_t dossier[MOST * 8], marked[MOST * 8], opened[MOST * 8], rules[MOST * 16], out[MOST * 16];
+static uint8_t dossier[MOST * 8], marked[MOST * 8], opened[MOST * 8], rules[MOST * 16], far[MOST * 16], out[MOST * 16];
 static size_t size, rules_size;
 
 typedef uint64_t (*work)(void);
@@ -108,6 +109,9 @@ static uint64_t lib_back(void) { return nv_read_back(dossier, size, rules, rules
 static uint64_t c_back(void) { return base_read_back(dossier, size, rules, rules_size); }
 static uint64_t lib_decide(void) { return nv_decide(marked, size, rules, rules_size, rules, 0, 0, size / 8 - 1); }
 static uint64_t c_decide(void) { return base_decide(marked, size, rules, rules_size, rules, 0, 0, size / 8 - 1); }
+static uint64_t lib_far(void) { return nv_decide(marked, size, far, sizeof far, far, 0, 0, size / 8 - 1); }
+static uint64_t c_far(void) { return base_decide(marked, size, far, sizeof far, far, 0, 0, size / 8 - 1); }
+static uint64_t c_far_all(void) { return base_decide_reading_all(marked, size, far, sizeof far, far, 0, 0, size / 8 - 1); }
 static uint64_t lib_fold(void) { return nv_fold(dossier, size); }
 static uint64_t c_fold(void) { return base_fold(dossier, size); }
 static uint64_t lib_judge(void) { return nv_judge(marked, size); }
@@ -129,12 +133,15 @@ static uint64_t steps(void (*fresh)(nv_walk *), uint64_t (*step)(nv_walk *, cons
 static uint64_t lib_steps(void) { return steps(nv_walk_fresh, nv_walk_step); }
 static uint64_t c_steps(void) { return steps(base_walk_fresh, base_walk_step); }
 
+/* what is compared, from so many elements on */
 static const struct {
     const char *name;
     work lib, c;
+    size_t from;
 } kinds[] = {
-    {"read", lib_read, c_read},   {"list", lib_list, c_list},    {"read back", lib_back, c_back}, {"decide", lib_decide, c_decide},
-    {"walk", lib_steps, c_steps}, {"fold", lib_fold, c_fold},    {"judge", lib_judge, c_judge},   {"view", lib_view, c_view},
+    {"read", lib_read, c_read, 64},       {"list", lib_list, c_list, 64},       {"read back", lib_back, c_back, 64},
+    {"decide", lib_decide, c_decide, 64}, {"decide far", lib_far, c_far, MOST}, {"walk", lib_steps, c_steps, 64},
+    {"fold", lib_fold, c_fold, 64},       {"judge", lib_judge, c_judge, 64},    {"view", lib_view, c_view, 64},
 };
 
 static uint64_t kept;
@@ -169,6 +176,20 @@ static void measure(work lib, work c, double *lib_best, double *c_best)
     }
 }
 
+/* As many rules as a list holds, all cascading, on the sixteen elements behind the root. None of the shapes has its last
+ * element below one of these, once it has 2,048. */
+static void aim_far(void)
+{
+    for (size_t i = 0; i < sizeof far; i += 8) {
+        size_t target = 1 + i / 8 % 16;
+        far[i] = (uint8_t)target;
+        far[i + 1] = 0;
+        far[i + 2] = i / 8 % 2;
+        far[i + 3] = 1;
+        memcpy(far + i + 4, dossier + target * 8 + 4, 4);
+    }
+}
+
 static void prepare(size_t n, int shape)
 {
     size = n * 8;
@@ -176,6 +197,7 @@ static void prepare(size_t n, int shape)
     memcpy(marked, dossier, size);
     base_fold(marked, size);
     rules_size = 8 * base_list(marked, size, rules, sizeof rules);
+    aim_far();
     make(opened, n, shape, 16);
     opened[1] = 1;
     base_fold(opened, size);
@@ -184,13 +206,22 @@ static void prepare(size_t n, int shape)
 static const size_t sizes[] = {64, 512, 4096};
 static const char *const shapes[] = {"chain", "star", "random"};
 
-int main(void)
+static void differ(uint64_t a, uint64_t b)
 {
-    text("function  shape   elements   library ns       C ns  ratio  growth per doubling", 0);
+    if (a != b)
+        text("  THE REPLIES DIFFER", 0);
+}
+
+/* Each function beside the baseline's, with what it takes for half the elements. */
+static void beside_c(void)
+{
+    text("function    shape   elements   library ns       C ns  ratio  growth per doubling", 0);
     end();
     for (size_t k = 0; k < sizeof kinds / sizeof *kinds; k++)
         for (int shape = 0; shape < 3; shape++)
             for (int s = 0; s < 3; s++) {
+                if (sizes[s] < kinds[k].from)
+                    continue;
                 double lib = 1e18, c = 1e18, half = 1e18, half_c = 1e18;
                 for (int i = 0; i < 3; i++) {
                     prepare(sizes[s] / 2, shape);
@@ -198,17 +229,42 @@ int main(void)
                     prepare(sizes[s], shape);
                     measure(kinds[k].lib, kinds[k].c, &lib, &c);
                 }
-                uint64_t a = kinds[k].lib(), b = kinds[k].c();
-                text(kinds[k].name, 10);
+                text(kinds[k].name, 12);
                 text(shapes[shape], 8);
                 number(sizes[s], 8);
                 number((uint64_t)lib, 13);
                 number((uint64_t)c, 11);
                 fraction(lib / c, 7);
                 fraction(lib / half, 8);
-                if (a != b)
-                    text("  THE REPLIES DIFFER", 0);
+                differ(kinds[k].lib(), kinds[k].c());
                 end();
             }
+}
+
+/* Deciding far behind the targets: the baseline reading every record between, as before request M-101, and the library. */
+static void before_and_after(void)
+{
+    text("decide far  shape   elements    before ns   after ns  before over after", 0);
+    end();
+    for (int shape = 0; shape < 3; shape++) {
+        double before = 1e18, after = 1e18;
+        prepare(MOST, shape);
+        measure(c_far_all, lib_far, &before, &after);
+        text("", 12);
+        text(shapes[shape], 8);
+        number(MOST, 8);
+        number((uint64_t)before, 13);
+        number((uint64_t)after, 11);
+        fraction(before / after, 9);
+        differ(c_far_all(), lib_far());
+        end();
+    }
+}
+
+int main(void)
+{
+    beside_c();
+    end();
+    before_and_after();
     return 0;
 }
