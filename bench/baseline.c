@@ -323,6 +323,8 @@ static unsigned other(size_t self, size_t all, size_t both)
 
 static unsigned same(size_t none, size_t both) { return none <= both ? 0 : 3; }
 
+static unsigned planned(unsigned marks, unsigned above) { return marks >> (above == 0 ? 2 : above == 1 ? 4 : 0) & 3; }
+
 /* The best sums of a branch for each value from above; its chosen marks go into the plan, two bits for each value. */
 static sums branch(const uint8_t *d, size_t n, uint8_t *plan, size_t at, size_t *next)
 {
@@ -357,12 +359,21 @@ uint64_t base_fold(uint8_t *d, size_t len)
     for (size_t p = 0; p < n; p++) {
         size_t depth = d[p * 8];
         unsigned above = depth ? handed[depth - 1] : 2;
-        unsigned shift = above == 0 ? 2 : above == 1 ? 4 : 0;
-        unsigned mark = plan[p] >> shift & 3;
+        unsigned mark = planned(plan[p], above);
         d[p * 8 + 2] = (uint8_t)mark;
         handed[depth] = (uint8_t)hands(mark, d[p * 8 + 1], above);
     }
     return s.none;
+}
+
+static uint64_t wrong(size_t given, size_t p, unsigned answer)
+{
+    return given + (p << 16) + (2ull << 32) + ((uint64_t)answer << 34);
+}
+
+static uint64_t right(size_t given, size_t best)
+{
+    return given == best ? given : given + ((given - best) << 16) + (1ull << 32);
 }
 
 uint64_t base_judge(const uint8_t *d, size_t len)
@@ -377,11 +388,93 @@ uint64_t base_judge(const uint8_t *d, size_t len)
         unsigned above = depth ? handed[depth - 1] : 2;
         unsigned mark = d[p * 8 + 2], decision = d[p * 8 + 1], answer = mark == 0 ? above : decision;
         if (answer != decision)
-            return given + (p << 16) + (2ull << 32) + ((uint64_t)answer << 34);
+            return wrong(given, p, answer);
         handed[depth] = (uint8_t)hands(mark, decision, above);
     }
-    size_t next, best = branch(d, n, plan, 0, &next).none;
-    return given == best ? given : given + ((given - best) << 16) + (1ull << 32);
+    size_t next;
+    return right(given, branch(d, n, plan, 0, &next).none);
+}
+
+/* ---- least marks where deny overrides, or permit: that is the same with all decisions turned */
+
+/* more rules than any dossier's marks list */
+enum { IMPOSSIBLE = 8193 };
+
+/* The same sums: under a deny from above all is denied, whatever the marks, and ± denies the element itself if set on a
+ * permit. */
+static sums branch_over(const uint8_t *d, size_t n, uint8_t *plan, unsigned turn, size_t at, size_t *next)
+{
+    unsigned depth = d[at * 8];
+    sums s = {0, 0, 0};
+    size_t p = at + 1;
+    while (p < n && d[p * 8] > depth) {
+        sums b = branch_over(d, n, plan, turn, p, &p);
+        s.none += b.none;
+        s.deny += b.deny;
+        s.permit += b.permit;
+    }
+    *next = p;
+    if (d[at * 8 + 1] == turn) {
+        size_t self = 1 + s.none, all = 1 + s.deny, both = 2 + s.permit, kept = 1 + s.permit;
+        plan[at] = (uint8_t)(other(self, all, both) + 16 * other(kept, all, both));
+        return (sums){least(self, least(all, both)), s.deny, least(kept, all)};
+    }
+    plan[at] = s.none <= s.permit ? 1 : 2;
+    return (sums){1 + least(s.none, s.permit), IMPOSSIBLE, s.permit};
+}
+
+/* The elements, then the combining number: how many elements there are, or the refusal. */
+static uint64_t asked_for(const uint8_t *d, size_t len, size_t combining)
+{
+    uint64_t n = base_read(d, len);
+    return refused(n) || combining <= 2 ? n : refusal(11, 0, 0);
+}
+
+/* Of two values the one that stands: deny is the smallest and none the largest. */
+static unsigned over(unsigned a, unsigned b) { return a <= b ? a : b; }
+
+uint64_t base_fold_for(uint8_t *d, size_t len, size_t combining)
+{
+    if (combining == 0)
+        return base_fold(d, len);
+    uint64_t n = asked_for(d, len, combining);
+    if (refused(n))
+        return n;
+    unsigned turn = combining == 2;
+    uint8_t plan[4096], handed[64];
+    size_t next;
+    sums s = branch_over(d, n, plan, turn, 0, &next);
+    for (size_t p = 0; p < n; p++) {
+        size_t depth = d[p * 8];
+        unsigned above = depth ? handed[depth - 1] : 2;
+        unsigned mark = planned(plan[p], above);
+        d[p * 8 + 2] = (uint8_t)mark;
+        handed[depth] = (uint8_t)over(hands(mark, d[p * 8 + 1] ^ turn, above), above);
+    }
+    return s.none;
+}
+
+uint64_t base_judge_for(const uint8_t *d, size_t len, size_t combining)
+{
+    if (combining == 0)
+        return base_judge(d, len);
+    uint64_t n = asked_for(d, len, combining);
+    if (refused(n))
+        return n;
+    unsigned turn = combining == 2;
+    size_t given = count(d, n);
+    uint8_t plan[4096], handed[64];
+    for (size_t p = 0; p < n; p++) {
+        size_t depth = d[p * 8];
+        unsigned above = depth ? handed[depth - 1] : 2;
+        unsigned mark = d[p * 8 + 2], decision = d[p * 8 + 1] ^ turn, down = over(hands(mark, decision, above), above);
+        unsigned answer = over(mark == 0 ? above : decision, down);
+        if (answer != decision)
+            return wrong(given, p, answer == 2 ? 2 : answer ^ turn);
+        handed[depth] = (uint8_t)down;
+    }
+    size_t next;
+    return right(given, branch_over(d, n, plan, turn, 0, &next).none);
 }
 
 /* ---- the view */

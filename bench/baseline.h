@@ -12,5 +12,7 @@ uint64_t base_decide_reading_all(const uint8_t *d, size_t len, const uint8_t *ho
 void base_walk_fresh(nv_walk *walk);
 uint64_t base_walk_step(nv_walk *walk, const uint8_t *record, size_t record_len);
 uint64_t base_fold(uint8_t *d, size_t len);
+uint64_t base_fold_for(uint8_t *d, size_t len, size_t combining);
 uint64_t base_judge(const uint8_t *d, size_t len);
+uint64_t base_judge_for(const uint8_t *d, size_t len, size_t combining);
 uint64_t base_view(const uint8_t *d, size_t len, uint8_t *out, size_t out_len);

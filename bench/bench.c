@@ -97,6 +97,7 @@ static void make(uint8_t *d, size_t n, int shape, uint32_t denied)
 /* ---- what is timed: one call of each kind, by the library or by the baseline */
 
 static uint8_t dossier[MOST * 8], marked[MOST * 8], opened[MOST * 8], rules[MOST * 16], far[MOST * 16], out[MOST * 16];
+static uint8_t denying[MOST * 8], permitting[MOST * 8]; /* with the least marks where deny, where permit overrides */
 static size_t size, rules_size;
 
 typedef uint64_t (*work)(void);
@@ -116,6 +117,14 @@ static uint64_t lib_fold(void) { return nv_fold(dossier, size); }
 static uint64_t c_fold(void) { return base_fold(dossier, size); }
 static uint64_t lib_judge(void) { return nv_judge(marked, size); }
 static uint64_t c_judge(void) { return base_judge(marked, size); }
+static uint64_t lib_fold_1(void) { return nv_fold_for(dossier, size, 1); }
+static uint64_t c_fold_1(void) { return base_fold_for(dossier, size, 1); }
+static uint64_t lib_fold_2(void) { return nv_fold_for(dossier, size, 2); }
+static uint64_t c_fold_2(void) { return base_fold_for(dossier, size, 2); }
+static uint64_t lib_judge_1(void) { return nv_judge_for(denying, size, 1); }
+static uint64_t c_judge_1(void) { return base_judge_for(denying, size, 1); }
+static uint64_t lib_judge_2(void) { return nv_judge_for(permitting, size, 2); }
+static uint64_t c_judge_2(void) { return base_judge_for(permitting, size, 2); }
 static uint64_t lib_view(void) { return nv_view(opened, size, out, sizeof out); }
 static uint64_t c_view(void) { return base_view(opened, size, out, sizeof out); }
 
@@ -139,9 +148,19 @@ static const struct {
     work lib, c;
     size_t from;
 } kinds[] = {
-    {"read", lib_read, c_read, 64},       {"list", lib_list, c_list, 64},       {"read back", lib_back, c_back, 64},
-    {"decide", lib_decide, c_decide, 64}, {"decide far", lib_far, c_far, MOST}, {"walk", lib_steps, c_steps, 64},
-    {"fold", lib_fold, c_fold, 64},       {"judge", lib_judge, c_judge, 64},    {"view", lib_view, c_view, 64},
+    {"read", lib_read, c_read, 64},
+    {"list", lib_list, c_list, 64},
+    {"read back", lib_back, c_back, 64},
+    {"decide", lib_decide, c_decide, 64},
+    {"decide far", lib_far, c_far, MOST},
+    {"walk", lib_steps, c_steps, 64},
+    {"fold", lib_fold, c_fold, 64},
+    {"fold for 1", lib_fold_1, c_fold_1, 64},
+    {"fold for 2", lib_fold_2, c_fold_2, 64},
+    {"judge", lib_judge, c_judge, 64},
+    {"judge for 1", lib_judge_1, c_judge_1, 64},
+    {"judge for 2", lib_judge_2, c_judge_2, 64},
+    {"view", lib_view, c_view, 64},
 };
 
 static uint64_t kept;
@@ -196,6 +215,10 @@ static void prepare(size_t n, int shape)
     make(dossier, n, shape, 2);
     memcpy(marked, dossier, size);
     base_fold(marked, size);
+    memcpy(denying, dossier, size);
+    base_fold_for(denying, size, 1);
+    memcpy(permitting, dossier, size);
+    base_fold_for(permitting, size, 2);
     rules_size = 8 * base_list(marked, size, rules, sizeof rules);
     aim_far();
     make(opened, n, shape, 16);

@@ -67,10 +67,18 @@ uint64_t nv_walk_step(nv_walk *walk, const uint8_t *record, size_t record_len);
 /* Writes the least marks into the mark bytes; replies how many rules they list. Refusals 1 to 6. */
 uint64_t nv_fold(uint8_t *dossier, size_t dossier_len);
 
+/* The same for a recipient that combines by this number, 0 first applicable, 1 deny overrides, 2 permit overrides: the
+ * least marks whose rules then give each element its set decision. Refusals 1 to 6, then 11. */
+uint64_t nv_fold_for(uint8_t *dossier, size_t dossier_len, size_t combining);
+
 /* Judges the dossier's marks: count + number * 2^16 + verdict * 2^32 + answer * 2^34, where the verdict is 0 least,
  * 1 longer by number, or 2 wrong at element number, which the walk gives that answer (0 but for a wrong one).
  * Refusals 1 to 6. */
 uint64_t nv_judge(const uint8_t *dossier, size_t dossier_len);
+
+/* The same for a recipient that combines by this number: least, longer and wrong are as for nv_fold_for, and the answer
+ * at a wrong element is that of the rules of the marks. Refusals 1 to 6, then 11. */
+uint64_t nv_judge_for(const uint8_t *dossier, size_t dossier_len, size_t combining);
 
 /* Writes the records of the elements that are permitted and have only permitted elements above them to the front of
  * out; replies how many. Permitted are those that the walk over the dossier's marks answers with permit. What is written

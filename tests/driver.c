@@ -157,6 +157,8 @@ int main(void)
         case 's': two_areas(walk_step); break;
         case 'o': get_area(&a); answer(nv_fold(a.bytes, a.len), 1); break;
         case 'j': get_area(&a); answer(nv_judge(a.bytes, a.len), 1); break;
+        case 'O': get_area(&a); answer(nv_fold_for(a.bytes, a.len, get_number()), 1); break;
+        case 'J': get_area(&a); answer(nv_judge_for(a.bytes, a.len, get_number()), 1); break;
         case 'v': two_areas(view); break;
         default: flush(); exit(2);
         }

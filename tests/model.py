@@ -3,12 +3,15 @@
 It shares nothing with the library but the layout of the bytes, and it prefers the obvious to the fast. A refusal is
 the tuple (number, list, position); every function gives back its reply and the buffers as they are afterwards.
 """
+from functools import cache, partial
+from math import inf
 
 RECORD = 8
 DEEPEST = 63
 MOST_ELEMENTS = 4096
 MOST_RULES = 8192
 DENY, PERMIT, NONE = 0, 1, 2
+SELF, ALL = 0, 1
 N, MINUS, PLUS, BOTH = 0, 1, 2, 3
 COST = (0, 1, 1, 2)
 
@@ -118,12 +121,11 @@ def at_or_above(parent, position):
 
 def applying(parent, rules, element):
     chain = at_or_above(parent, element)
-    return [r for r in rules if r.target == element or (r.reach == 1 and r.target in chain)]
+    return [r for r in rules if r.target == element or (r.reach == ALL and r.target in chain)]
 
 
-def combined(rules, combining):
-    """The answer of rules that all apply."""
-    effects = [r.effect for r in rules]
+def combined(effects, combining):
+    """The answer of rules that all apply, from their effects in list order."""
     if not effects:
         return NONE
     if combining == 0:
@@ -143,7 +145,7 @@ def asked(dossier, house, recipient, combining, element):
 
 
 def decide(dossier, house, recipient, combining, element):
-    return combined(asked(dossier, house, recipient, combining, element), combining)
+    return combined([r.effect for r in asked(dossier, house, recipient, combining, element)], combining)
 
 
 def deciding(dossier, house, recipient, combining, element):
@@ -151,27 +153,39 @@ def deciding(dossier, house, recipient, combining, element):
         rules = asked(dossier, house, recipient, combining, element)
     except Refused:
         return b""
-    answer = combined(rules, combining)
+    answer = combined([r.effect for r in rules], combining)
     return next((r.bytes for r in rules if r.effect == answer), b"")
+
+
+def answered(elements, rules, combining):
+    """What a rule list answers for each element. Only the rules on it and above it are tried: no other can apply."""
+    parent, on = parents(elements), [[] for _ in elements]
+    for place, rule in enumerate(rules):
+        on[rule.target].append(place)
+    for position in range(len(elements)):
+        tried = sorted(place for t in at_or_above(parent, position) for place in on[t])
+        yield combined([r.effect for r in applying(parent, [rules[place] for place in tried], position)], combining)
 
 
 # ---- marks
 
-def mark_answer(mark, decision, above):
-    return above if mark == N else decision
-
-
-def mark_hands(mark, decision, above):
-    return (above, above, decision, 1 - decision)[mark]
+def walked(mark, decision, above):
+    """By the walk: what an element is answered, and what it hands down."""
+    return above if mark == N else decision, (above, above, decision, 1 - decision)[mark]
 
 
 def walk(elements, marks):
     answers, handed = [], {}
     for element, mark in zip(elements, marks):
         above = handed[element.depth - 1] if element.depth else NONE
-        answers.append(mark_answer(mark, element.decision, above))
-        handed[element.depth] = mark_hands(mark, element.decision, above)
+        answer, handed[element.depth] = walked(mark, element.decision, above)
+        answers.append(answer)
     return answers
+
+
+def own_effects(mark, decision):
+    """Effect and reach of the rules that a mark sets, in their order."""
+    return ([], [(decision, SELF)], [(decision, ALL)], [(decision, SELF), (1 - decision, ALL)])[mark]
 
 
 def rule_bytes(target, effect, reach, key):
@@ -179,10 +193,7 @@ def rule_bytes(target, effect, reach, key):
 
 
 def own_rules(position, element, mark):
-    itself = rule_bytes(position, element.decision, 0, element.key)
-    below = rule_bytes(position, element.decision, 1, element.key)
-    turned = rule_bytes(position, 1 - element.decision, 1, element.key)
-    return ([], [itself], [below], [itself, turned])[mark]
+    return [rule_bytes(position, effect, reach, element.key) for effect, reach in own_effects(mark, element.decision)]
 
 
 def listed(elements, marks):
@@ -268,16 +279,26 @@ def walk_step(state, record):
     if number:
         raise Refused(number, 0, taken)
     above = handed[element.depth - 1] if element.depth else NONE
-    now = bytearray(handed[:element.depth])
-    now.append(mark_hands(element.mark, element.decision, above))
-    now += bytes([NONE]) * (64 - len(now))
-    return mark_answer(element.mark, element.decision, above), (bytes(now), element.depth, taken + 1)
+    answer, hands = walked(element.mark, element.decision, above)
+    now = bytes(handed[:element.depth]) + bytes([hands])
+    return answer, (now + bytes([NONE]) * (64 - len(now)), element.depth, taken + 1)
 
 
-# ---- least marks
+# ---- least marks: a step, as by the walk, says for a mark what an element is answered and what it hands down
 
-def best(elements):
-    """For each element and each value from above the least number of rules of its branch and the first mark that attains it."""
+@cache
+def ruled(combining, mark, decision, above):
+    """The step by the rules: an element's own come before those from above, and these count by their answer alone."""
+    own, from_above = own_effects(mark, decision), [] if above == NONE else [above]
+    return (combined([effect for effect, _ in own] + from_above, combining),
+            combined([effect for effect, reach in own if reach == ALL] + from_above, combining))
+
+
+def best(elements, step):
+    """For each element and each value from above: the least number of rules of its branch, the first mark that attains it.
+
+    Where no mark is right, as on a permit under a deny that overrides, the number is infinite.
+    """
     below = children(elements)
     table = [None] * len(elements)
     for position in reversed(range(len(elements))):
@@ -286,41 +307,62 @@ def best(elements):
         for above in (DENY, PERMIT, NONE):
             choices = []
             for mark in (N, MINUS, PLUS, BOTH):
-                if mark_answer(mark, decision, above) == decision:
-                    hands = mark_hands(mark, decision, above)
+                answer, hands = step(mark, decision, above)
+                if answer == decision:
                     choices.append((COST[mark] + sum(table[c][hands][0] for c in below[position]), mark))
-            table[position].append(min(choices))
+            table[position].append(min(choices, default=(inf, N)))
     return table
 
 
-def least_marks(elements):
-    table, handed, marks = best(elements), {}, []
+def least_marks(elements, step):
+    table, handed, marks = best(elements, step), {}, []
     for position, element in enumerate(elements):
         above = handed[element.depth - 1] if element.depth else NONE
         mark = table[position][above][1]
         marks.append(mark)
-        handed[element.depth] = mark_hands(mark, element.decision, above)
+        _, handed[element.depth] = step(mark, element.decision, above)
     return table[0][NONE][0], marks
 
 
+def asked_for(dossier, combining):
+    elements = elements_of(dossier)
+    if combining > 2:
+        raise Refused(11)
+    return elements
+
+
 def fold(dossier):
-    count, marks = least_marks(elements_of(dossier))
+    count, marks = least_marks(elements_of(dossier), walked)
+    return count, with_marks(dossier, marks)
+
+
+def fold_for(dossier, combining):
+    count, marks = least_marks(asked_for(dossier, combining), partial(ruled, combining))
     return count, with_marks(dossier, marks)
 
 
 LEAST, LONGER, WRONG = 0, 1, 2
 
 
-def judge(dossier):
-    """The count of the given marks, the verdict, its number, and the walk's answer where it is wrong."""
-    elements = elements_of(dossier)
-    marks = [e.mark for e in elements]
-    count = sum(COST[m] for m in marks)
-    for position, (element, answer) in enumerate(zip(elements, walk(elements, marks))):
+def verdict(elements, answers, step):
+    """The count of the given marks, the verdict, its number, and the answer where it is wrong."""
+    count = sum(COST[e.mark] for e in elements)
+    for position, (element, answer) in enumerate(zip(elements, answers)):
         if answer != element.decision:
             return count, WRONG, position, answer
-    excess = count - least_marks(elements)[0]
+    excess = count - least_marks(elements, step)[0]
     return (count, LONGER, excess, 0) if excess else (count, LEAST, 0, 0)
+
+
+def judge(dossier):
+    elements = elements_of(dossier)
+    return verdict(elements, walk(elements, [e.mark for e in elements]), walked)
+
+
+def judge_for(dossier, combining):
+    elements = asked_for(dossier, combining)
+    rules = [Rule(r) for r in listed(elements, [e.mark for e in elements])]
+    return verdict(elements, answered(elements, rules, combining), partial(ruled, combining))
 
 
 # ---- the view

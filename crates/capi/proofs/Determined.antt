@@ -8,9 +8,9 @@ use Rattle.marks.specs.declared.Stepped.{Stepped}
 use Rattle.marks.proofs.Determined.{steps-one}
 use Rattle.listing.specs.Back.{Back}
 use Rattle.listing.proofs.Unique.{back-one}
-use Rattle.least.specs.Folding.{Folded}
-use Rattle.least.specs.Judging.{Judged}
-use Rattle.least.proofs.Determined.{folded-unique, judged-unique}
+use Rattle.least.specs.Folding.{Folded, FoldedFor}
+use Rattle.least.specs.Judging.{Judged, JudgedFor}
+use Rattle.least.proofs.Determined.{folded-unique, judged-unique, folded-for-unique, judged-for-unique}
 use Rattle.view.specs.View.{Views}
 use Rattle.view.proofs.Unique.{views-unique}
 use Rattle.capi.specs.Packed.{packedReply, packedAnswer, packedJudgement, Packs}
@@ -30,6 +30,12 @@ fold-one d n m new old p q =
     let o = folded-unique d (p .reply) (q .reply) new old (p .allowed) (q .allowed) in
     (number-one packedReply p q (o .0), o .1)
 
+pub fold-for-one : (c : ℕ) (d : List ℕ) (n m : ℕ) (new old : List ℕ) → Packs packedReply (λ reply. FoldedFor c d reply new) n
+    → Packs packedReply (λ reply. FoldedFor c d reply old) m → (n ≡ m) × (new ≡ old)
+fold-for-one c d n m new old p q =
+    let o = folded-for-unique c d (p .reply) (q .reply) new old (p .allowed) (q .allowed) in
+    (number-one packedReply p q (o .0), o .1)
+
 pub view-one : (d area : List ℕ) (n m : ℕ) (new old : List ℕ) → Packs packedReply (λ reply. Views d area reply new) n
     → Packs packedReply (λ reply. Views d area reply old) m → (n ≡ m) × (new ≡ old)
 view-one d area n m new old p q =
@@ -39,6 +45,10 @@ view-one d area n m new old p q =
 pub judge-one : (d : List ℕ) (n m : ℕ) → Packs packedJudgement (λ judgement. Judged d judgement) n
     → Packs packedJudgement (λ judgement. Judged d judgement) m → n ≡ m
 judge-one d n m p q = number-one packedJudgement p q (judged-unique d (p .reply) (q .reply) (p .allowed) (q .allowed))
+
+pub judge-for-one : (c : ℕ) (d : List ℕ) (n m : ℕ) → Packs packedJudgement (λ judgement. JudgedFor c d judgement) n
+    → Packs packedJudgement (λ judgement. JudgedFor c d judgement) m → n ≡ m
+judge-for-one c d n m p q = number-one packedJudgement p q (judged-for-unique c d (p .reply) (q .reply) (p .allowed) (q .allowed))
 
 pub walk-step-one : (w : Walk) (r : List ℕ) (n m : ℕ) (new old : Walk)
     → Packs packedAnswer (λ answer. Steps w r (record { walk = new; answer = answer })) n

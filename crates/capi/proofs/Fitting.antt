@@ -11,7 +11,7 @@ use Rattle.dossier.specs.Limits.{width, deepest, mostElements}
 use Rattle.dossier.specs.Elements.{Mark, marksOf}
 use Rattle.dossier.specs.Bytes.{records, elementsOf}
 use Rattle.dossier.specs.Replies.{refusal, andThen, roomFor}
-use Rattle.dossier.specs.Reading.{faultOf, readOf}
+use Rattle.dossier.specs.Reading.{faultOf, readOf, Sound}
 use Rattle.dossier.specs.Table.{Row, row-1, row-2, row-3, row-4, row-5, row-6}
 use Rattle.dossier.specs.declared.Decision.{Decision}
 use Rattle.dossier.specs.declared.Refusal.{Refusal}
@@ -33,11 +33,13 @@ use Rattle.listing.specs.Back.{Told, marked, none, BackAfter, Back}
 use Rattle.listing.proofs.Costs.{elements-length, listed-most}
 use Rattle.marks.specs.Marks.{first}
 use Rattle.marks.specs.Walking.{walked}
-use Rattle.least.specs.Least.{count, Least}
-use Rattle.least.specs.Folding.{FoldedAfter, Folded}
-use Rattle.least.specs.Inner.{wrongCost}
-use Rattle.least.proofs.Folds.{first-plain, count-is, count-most}
-use Rattle.least.specs.Judging.{Holds, JudgedAfter, Judged}
+use Rattle.least.specs.Least.{Answers, listed, count, Least}
+use Rattle.least.specs.Folding.{FoldedAfter, Folded, askedFor, FoldedFor}
+use Rattle.least.specs.Judging.{Holds, JudgedAfter, Judged, JudgedFor}
+use Rattle.least.proofs.Matching.{least-as}
+use Rattle.least.proofs.Gateways.{first-matches}
+use Rattle.least.proofs.Replies.{asked-sound}
+use Rattle.least.proofs.Whole.{count-least, least-bounds}
 use Rattle.least.specs.declared.Verdict.{Verdict}
 use Rattle.least.specs.declared.Verdict.the-variants as verdict
 use Rattle.least.specs.declared.Judgement.{Judgement}
@@ -179,40 +181,62 @@ back-fits d rs reply new b =
 
 -- ---- folding, judging, the view
 
--- least marks list at most a rule for each element
-least-few : (d : List ℕ) (n : ℕ) → readOf d ≡ Count n → (ms : List Mark) → Least (walked first) (elementsOf d) ms → count (elementsOf d) ms ≤ mostElements
-least-few d n e ms l =
-    let o = counted-sound d n e .order in
-    let m : length (elementsOf d) < wrongCost = omega (arith, elements-length d, few d n e) in
-    omega (
-      arith,
-      count-is first wrongCost first-plain (elementsOf d) o m ms l,
-      count-most first wrongCost first-plain (elementsOf d) o m,
-    )
+-- by any way to answer whose least marks list at most a rule for each element
+module _ (A : Answers) (d : List ℕ) (x : Reply) (fits : FitsReply x) (sound : (n : ℕ) → x ≡ Count n → Sound d)
+    (least-few : Sound d → (ms : List Mark) → Least A (elementsOf d) ms → count (elementsOf d) ms ≤ mostElements) where
+  folded-after-fits : (reply : Reply) (new : List ℕ) → FoldedAfter A x d reply new → FitsReply reply
+  folded-after-fits reply new f = go x refl fits f
+    where
+      go : (r : Reply) → x ≡ r → FitsReply r → FoldedAfter A r d reply new → FitsReply reply
+      go (Count n) e s f = let l = least-few (sound n e) (f .marks) (f .folds .least) in rw (f .counted) (omega arith)
+      go (Refused g) e s f = rw (f .0) s
+
+  -- what is judged is the count of the rules that are listed
+  verdict-fits : Sound d → (v : Verdict) → Holds A (elementsOf d) (marksOf (elementsOf d)) v → FitsVerdict v
+  unfolding listedOf
+  verdict-fits s verdict.Least h = tt
+  verdict-fits s (verdict.Longer k) h = omega (arith, s .few, listed-most d, h .excess)
+  verdict-fits s (verdict.Wrong i a) h = omega (arith, s .few, elements-length d, h .there)
+
+  judged-after-fits : (j : Judgement) → JudgedAfter A x d j → FitsJudgement j
+  unfolding listedOf
+  judged-after-fits j h = go x refl fits j h
+    where
+      go : (r : Reply) → x ≡ r → FitsReply r → (j : Judgement) → JudgedAfter A r d j → FitsJudgement j
+      go (Count n) e s (judgement.Reported q) h =
+          (omega (arith, sound n e .few, listed-most d, h .counted), verdict-fits (sound n e) (q .verdict) (h .holds))
+      go (Count n) e s (judgement.Refused f) h = absurd h
+      go (Refused g) e s (judgement.Reported q) h = absurd h
+      go (Refused g) e s (judgement.Refused f) h = rw h s
+
+-- by the listed rules
+listed-few : (c : ℕ) (d : List ℕ) → Sound d → (ms : List Mark) → Least (listed c) (elementsOf d) ms → count (elementsOf d) ms ≤ mostElements
+listed-few c d s ms l = omega (arith, count-least c d s ms l, least-bounds c d s, s .few)
+
+-- and by the walk, as first applicable does
+walked-few : (d : List ℕ) → Sound d → (ms : List Mark) → Least (walked first) (elementsOf d) ms → count (elementsOf d) ms ≤ mostElements
+walked-few d s ms l = listed-few 0 d s ms (least-as (first-matches (elementsOf d) (s .order)) ms l)
 
 pub folded-fits : (d : List ℕ) (reply : Reply) (new : List ℕ) → Folded d reply new → FitsReply reply
-folded-fits d reply new f = go (readOf d) refl (read-fits d) f
-  where
-    go : (r : Reply) → readOf d ≡ r → FitsReply r → FoldedAfter r d reply new → FitsReply reply
-    go (Count n) e s f = let l = least-few d n e (f .marks) (f .folds .least) in rw (f .counted) (omega arith)
-    go (Refused g) e s f = rw (f .0) s
-
--- what is judged is the count of the rules that are listed
-verdict-fits : (d : List ℕ) (n : ℕ) → readOf d ≡ Count n → (v : Verdict) → Holds (walked first) (elementsOf d) (marksOf (elementsOf d)) v → FitsVerdict v
-unfolding listedOf
-verdict-fits d n e verdict.Least h = tt
-verdict-fits d n e (verdict.Longer k) h = omega (arith, few d n e, listed-most d, h .excess)
-verdict-fits d n e (verdict.Wrong i a) h = omega (arith, few d n e, elements-length d, h .there)
+folded-fits d = folded-after-fits (walked first) d (readOf d) (read-fits d) (counted-sound d) (walked-few d)
 
 pub judged-fits : (d : List ℕ) (j : Judgement) → Judged d j → FitsJudgement j
-unfolding listedOf
-judged-fits d j h = go (readOf d) refl (read-fits d) j h
-  where
-    go : (r : Reply) → readOf d ≡ r → FitsReply r → (j : Judgement) → JudgedAfter r d j → FitsJudgement j
-    go (Count n) e s (judgement.Reported q) h = (omega (arith, few d n e, listed-most d, h .counted), verdict-fits d n e (q .verdict) (h .holds))
-    go (Count n) e s (judgement.Refused f) h = absurd h
-    go (Refused g) e s (judgement.Reported q) h = absurd h
-    go (Refused g) e s (judgement.Refused f) h = rw h s
+judged-fits d = judged-after-fits (walked first) d (readOf d) (read-fits d) (counted-sound d) (walked-few d)
+
+module _ (c : ℕ) (d : List ℕ) where
+  asked-for-fits : FitsReply (askedFor d c)
+  unfolding askedFor
+  asked-for-fits = then-fits (readOf d) _ (read-fits d) (λ n e. go (ltb 2 c) (few d n e))
+    where
+      go : (t : Bool) → records d ≤ mostElements → FitsReply (cond t (refusal 11 0 0) (Count (records d)))
+      go true l = small (omega arith) (omega arith) (omega arith)
+      go false l = omega arith
+
+  pub folded-for-fits : (reply : Reply) (new : List ℕ) → FoldedFor c d reply new → FitsReply reply
+  folded-for-fits = folded-after-fits (listed c) d (askedFor d c) asked-for-fits (asked-sound d c) (listed-few c d)
+
+  pub judged-for-fits : (j : Judgement) → JudgedFor c d j → FitsJudgement j
+  judged-for-fits = judged-after-fits (listed c) d (askedFor d c) asked-for-fits (asked-sound d c) (listed-few c d)
 
 pub views-fits : (d area : List ℕ) (reply : Reply) (new : List ℕ) → Views d area reply new → FitsReply reply
 views-fits d area reply new v = go (readOf d) refl (read-fits d) v

@@ -16,8 +16,8 @@ ghost use Rattle.rules.specs.Deciding.{decideOf, decidingOf};
 ghost use Rattle.marks.specs.Stepping.{freshOf, Steps};
 ghost use Rattle.listing.specs.Area.{listReply, listArea};
 ghost use Rattle.listing.specs.Back.{Back};
-ghost use Rattle.least.specs.Folding.{Folded};
-ghost use Rattle.least.specs.Judging.{Judged};
+ghost use Rattle.least.specs.Folding.{Folded, FoldedFor};
+ghost use Rattle.least.specs.Judging.{Judged, JudgedFor};
 ghost use Rattle.view.specs.View.{Views};
 ghost use Rattle.capi.specs.Packed.{packedRefusal, packedReply, packedAnswer, packedVerdict, packedJudgement, Packs, partAfter};
 ghost use Rattle.capi.specs.Inner.{ifWhole};
@@ -195,12 +195,28 @@ pub extern "C" fn nv_fold(dossier: &mut [u8]) -> u64
     pack_reply(least::fold(dossier))
 }
 
+// The same for a recipient that combines by this number.
+#[no_mangle]
+pub extern "C" fn nv_fold_for(dossier: &mut [u8], combining: usize) -> u64
+    ensures { λ r. ⌜ Packs packedReply (λ reply. FoldedFor combining (now (dossier .entry)) reply (now (dossier .exit))) r ⌝ }
+{
+    pack_reply(least::fold_for(dossier, combining))
+}
+
 // Judges the marks that the dossier holds.
 #[no_mangle]
 pub extern "C" fn nv_judge(dossier: &[u8]) -> u64
     ensures { λ r. ⌜ Packs packedJudgement (λ judgement. Judged (now (dossier .entry)) judgement) r ⌝ }
 {
     pack_judgement(least::judge(dossier))
+}
+
+// The same for a recipient that combines by this number.
+#[no_mangle]
+pub extern "C" fn nv_judge_for(dossier: &[u8], combining: usize) -> u64
+    ensures { λ r. ⌜ Packs packedJudgement (λ judgement. JudgedFor combining (now (dossier .entry)) judgement) r ⌝ }
+{
+    pack_judgement(least::judge_for(dossier, combining))
 }
 
 // Writes the records of the permitted elements to the front of `out`, and replies how many.

@@ -19,6 +19,7 @@ use Rattle.dossier.proofs.RoundTrip.{mark-back}
 use Rattle.dossier.proofs.Sounds.{counted-sound}
 use Rattle.rules.specs.Rules.{Rule, rulesOf, listBytes}
 use Rattle.rules.specs.ReadingRules.{readRulesOf}
+use Rattle.rules.specs.Combining.{decision}
 use Rattle.rules.proofs.RoundTrip.{rules-back}
 use Rattle.marks.specs.Marks.{first}
 use Rattle.marks.specs.Walking.{walked}
@@ -32,16 +33,20 @@ use Rattle.listing.specs.Back.{Gives, marked, none, Back}
 use Rattle.listing.proofs.Costs.{elements-length, marks-length}
 use Rattle.listing.proofs.Injective.{told, list-told}
 use Rattle.listing.proofs.Unique.{back-one}
-use Rattle.least.specs.Least.{Least, count}
-use Rattle.least.specs.Folding.{Folded}
-use Rattle.least.specs.Judging.{Judged}
-use Rattle.least.specs.Inner.{wrongCost}
+use Rattle.least.specs.Least.{Answers, listed, Fold, count}
+use Rattle.least.specs.Folding.{FoldedAfter, Folded, askedFor, FoldedFor}
+use Rattle.least.specs.Judging.{JudgedAfter, Judged, JudgedFor}
+use Rattle.least.specs.Inner.{gatewayOf, wrongCost}
 use Rattle.least.specs.declared.Judgement.{Judgement}
 use Rattle.least.specs.declared.Judgement.the-variants as judgement
-use Rattle.least.proofs.Folds.{fold, fold-is, first-plain}
+use Rattle.least.proofs.Folds.{fold}
 use Rattle.least.proofs.Verdicts.{verdictOf}
-use Rattle.least.proofs.Whole.{few}
-use Rattle.least.proofs.Determined.{folded-unique, judged-unique}
+use Rattle.least.proofs.Matching.{matches-back, fold-as}
+use Rattle.least.proofs.Gateways.{first-matches}
+use Rattle.least.proofs.Branches.{elementsFor}
+use Rattle.least.proofs.Replies.{asked-sound}
+use Rattle.least.proofs.Whole.{fold-listed}
+use Rattle.least.proofs.Determined.{folded-after, judged-after}
 use Rattle.view.specs.View.{Views}
 use Rattle.view.specs.Inner.{shownOf}
 use Rattle.view.proofs.Belongs.{shown-view}
@@ -134,45 +139,61 @@ back-only d rs = go (andThen (readOf d) (readRulesOf d 1 rs)) refl
 
 -- ---- the folder and the judge
 
-module _ (d : List ℕ) (s : Sound d) where
+-- by any way to answer that has a folder's marking of every sound dossier
+module _ (A : Answers) (x : Reply) (d : List ℕ) (sound : (n : ℕ) → x ≡ Count n → Sound d) (marks : List Mark) (folds : Sound d → Fold A (elementsOf d) marks) where
+  fold-by : OneReply (FoldedAfter A x d)
+  fold-by = go x refl
+    where
+      by : (reply : Reply) (new : List ℕ) → FoldedAfter A x d reply new → OneReply (FoldedAfter A x d)
+      by = one-reply (FoldedAfter A x d) (folded-after A x d)
+
+      go : (y : Reply) → x ≡ y → OneReply (FoldedAfter A x d)
+      go (Refused f) e = by (Refused f) d (rw e (refl, refl))
+      go (Count n) e =
+          by (Count (count (elementsOf d) marks)) (withMarks d 0 marks)
+          (rw e (record { marks = marks; folds = folds (sound n e); written = refl; counted = refl }))
+
+  judge-by : length (A (elementsOf d) (marksOf (elementsOf d))) ≡ length (elementsOf d) → ExactlyOne (JudgedAfter A x d)
+  judge-by long = go x refl
+    where
+      by : (j : Judgement) → JudgedAfter A x d j → ExactlyOne (JudgedAfter A x d)
+      by j h = record { it = j; allowed = h; only = λ q g. judged-after A x d q j g h }
+
+      go : (y : Reply) → x ≡ y → ExactlyOne (JudgedAfter A x d)
+      go (Refused f) e = by (judgement.Refused f) (rw e refl)
+      go (Count n) e =
+          let es = elementsOf d in
+          let v = verdictOf A es marks (folds (sound n e) .least) (marksOf es) (marks-length d) long in
+          by (judgement.Reported (record { count = count es (marksOf es); verdict = v .0 })) (rw e (record { counted = refl; holds = v .1 }))
+
+module _ (c : ℕ) (d : List ℕ) where
+  -- the folder's marks under this combining
   folded : List Mark
-  folded = fold first wrongCost (elementsOf d)
+  folded = fold (gatewayOf c) wrongCost (elementsFor c d)
 
-  folded-least : Least (walked first) (elementsOf d) folded
+  folded-listed : Sound d → Fold (listed c) (elementsOf d) folded
   unfolding folded
-  folded-least = fold-is first wrongCost first-plain (elementsOf d) (s .order) (few d s) .least
+  folded-listed s = fold-listed c d s
 
-fold-only : (d : List ℕ) → OneReply (Folded d)
-unfolding folded
-fold-only d = go (readOf d) refl
-  where
-    by : (reply : Reply) (new : List ℕ) → Folded d reply new → OneReply (Folded d)
-    by = one-reply (Folded d) (folded-unique d)
+  fold-for-only : OneReply (FoldedFor c d)
+  fold-for-only = fold-by (listed c) (askedFor d c) d (asked-sound d c) folded folded-listed
 
-    go : (x : Reply) → readOf d ≡ x → OneReply (Folded d)
-    go (Refused f) e = by (Refused f) d (rw e (refl, refl))
-    go (Count n) e =
-        let s = counted-sound d n e in
-        by (Count (count (elementsOf d) (folded d s))) (withMarks d 0 (folded d s)) (rw e (record {
-          marks = folded d s;
-          folds = fold-is first wrongCost first-plain (elementsOf d) (s .order) (few d s);
-          written = refl;
-          counted = refl;
-        }))
+  judge-for-only : ExactlyOne (JudgedFor c d)
+  judge-for-only =
+      judge-by (listed c) (askedFor d c) d (asked-sound d c) folded folded-listed
+      (run-length (λ i. decision c (elementsOf d) i (listOf (elementsOf d) (marksOf (elementsOf d)))) 0 (length (elementsOf d)))
 
-judge-only : (d : List ℕ) → ExactlyOne (Judged d)
-judge-only d = go (readOf d) refl
-  where
-    by : (j : Judgement) → Judged d j → ExactlyOne (Judged d)
-    by j h = record { it = j; allowed = h; only = λ q g. judged-unique d q j g h }
+module _ (d : List ℕ) where
+  folded-walked : Sound d → Fold (walked first) (elementsOf d) (folded 0 d)
+  folded-walked s = fold-as (matches-back (first-matches (elementsOf d) (s .order))) (folded 0 d) (folded-listed 0 d s)
 
-    go : (x : Reply) → readOf d ≡ x → ExactlyOne (Judged d)
-    go (Refused f) e = by (judgement.Refused f) (rw e refl)
-    go (Count n) e =
-        let s = counted-sound d n e in
-        let es = elementsOf d in
-        let v = verdictOf (walked first) es (folded d s) (folded-least d s) (marksOf es) (marks-length d) (walk-length first [] es (marksOf es) (marks-length d)) in
-        by (judgement.Reported (record { count = count es (marksOf es); verdict = v .0 })) (rw e (record { counted = refl; holds = v .1 }))
+  fold-only : OneReply (Folded d)
+  fold-only = fold-by (walked first) (readOf d) d (counted-sound d) (folded 0 d) folded-walked
+
+  judge-only : ExactlyOne (Judged d)
+  judge-only =
+      judge-by (walked first) (readOf d) d (counted-sound d) (folded 0 d) folded-walked
+      (walk-length first [] (elementsOf d) (marksOf (elementsOf d)) (marks-length d))
 
 -- ---- the view
 
@@ -198,5 +219,7 @@ definite = record {
   read-back = back-only;
   fold = fold-only;
   judge = judge-only;
+  fold-for = fold-for-only;
+  judge-for = judge-for-only;
   view = view-only;
 }

@@ -9,4 +9,5 @@ pub mod AnyMarks
 pub mod Two
 pub mod Verdicts
 pub mod Three
+pub mod Combinings
 pub mod Twelve

@@ -2,7 +2,7 @@
 use Rattle.dossier.proofs.Rows.{counted-row, refused-row}
 use Rattle.rules.proofs.ListSounds.{count-sound, refused-row as refused-rules}
 use Rattle.demands.specs.Demand1.{Demand1}
-use Rattle.demands.proofs.Requests.{list-refused, list-unchanged, back-refused, back-unchanged, decide-refused, fold-refused, fold-unchanged, judge-refused, view-refused, view-unchanged}
+use Rattle.demands.proofs.Requests.{list-refused, list-unchanged, back-refused, back-unchanged, decide-refused, fold-refused, fold-unchanged, judge-refused, fold-for-refused, fold-for-unchanged, judge-for-refused, view-refused, view-unchanged}
 use Rattle.demands.proofs.WalkStep.{step-refused, step-unchanged}
 use Rattle.demands.proofs.Determined.{definite}
 
@@ -18,11 +18,14 @@ demand-1 = record {
   decide-refused = decide-refused;
   fold-refused = fold-refused;
   judge-refused = judge-refused;
+  fold-for-refused = fold-for-refused;
+  judge-for-refused = judge-for-refused;
   view-refused = view-refused;
   step-refused = step-refused;
   list-unchanged = list-unchanged;
   back-unchanged = back-unchanged;
   fold-unchanged = fold-unchanged;
+  fold-for-unchanged = fold-for-unchanged;
   view-unchanged = view-unchanged;
   step-unchanged = step-unchanged;
 }

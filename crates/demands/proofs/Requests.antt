@@ -22,10 +22,13 @@ use Rattle.rules.specs.ReadingRules.{readRulesOf}
 use Rattle.rules.specs.Combining.{decision}
 use Rattle.rules.specs.Deciding.{numbersOf, askedOf, bothRules, answered, decideOf}
 use Rattle.rules.proofs.ListSounds.{refused-row as refused-rules}
+use Rattle.marks.specs.Marks.{first}
+use Rattle.marks.specs.Walking.{walked}
 use Rattle.listing.specs.Area.{listedOf, listReply, listArea}
 use Rattle.listing.specs.Back.{Told, marked, none, BackAfter, Back}
-use Rattle.least.specs.Folding.{FoldedAfter, Folded}
-use Rattle.least.specs.Judging.{JudgedAfter, Judged}
+use Rattle.least.specs.Least.{Answers, listed}
+use Rattle.least.specs.Folding.{FoldedAfter, Folded, askedFor, FoldedFor}
+use Rattle.least.specs.Judging.{JudgedAfter, Judged, JudgedFor}
 use Rattle.least.specs.declared.Judgement.{Judgement}
 use Rattle.least.specs.declared.Judgement.the-variants as judgement
 use Rattle.view.specs.View.{Viewed, ViewedAfter, Views}
@@ -110,34 +113,59 @@ decide-refused d house recipient c i =
     then (readRulesOf d 1 house) _ (refused-rules d house 1) (λ n e.
     then (readRulesOf d 2 recipient) _ (refused-rules d recipient 2) (λ n e. numbers-refused d c i))))
 
--- ---- folding
+-- ---- folding and judging, by any way to answer and after any refusals
 
-module _ (d : List ℕ) (reply : Reply) (new : List ℕ) where
-  pub fold-refused : Folded d reply new → RefusesReply reply (inElements d)
-  fold-refused = go (readOf d) (refused-row d)
+module _ (A : Answers) (P : Refusals) (x : Reply) (d : List ℕ) where
+  folded-refused : RefusesReply x P → (reply : Reply) (new : List ℕ) → FoldedAfter A x d reply new → RefusesReply reply P
+  folded-refused h reply new = go x h
     where
-      go : (x : Reply) → RefusesReply x (inElements d) → FoldedAfter x d reply new → RefusesReply reply (inElements d)
+      go : (x : Reply) → RefusesReply x P → FoldedAfter A x d reply new → RefusesReply reply P
       go (Count n) p b = rw (b .counted) (no-refusal Refused (counted-free p) count-never)
       go (Refused g) p b = rw (b .0) p
 
-  pub fold-unchanged : (f : Refusal) → Folded d reply new → reply ≡ Refused f → new ≡ d
-  fold-unchanged f = go (readOf d)
+  judged-refused : RefusesReply x P → (j : Judgement) → JudgedAfter A x d j → Refuses judgement.Refused j P
+  judged-refused h j = go x j h
     where
-      go : (x : Reply) → FoldedAfter x d reply new → reply ≡ Refused f → new ≡ d
-      go (Count n) b e = absurd (count-never f (sym (b .counted) ∙ e))
-      go (Refused g) b e = b .1
+      go : (x : Reply) (j : Judgement) → RefusesReply x P → JudgedAfter A x d j → Refuses judgement.Refused j P
+      go (Count n) (judgement.Reported r) p b =
+          no-refusal judgement.Refused (counted-free p) (λ f e. let z : _≡_ {A = ℕ} 0 1 = cc in omega arith)
+      go (Count n) (judgement.Refused g) p b = absurd b
+      go (Refused g) (judgement.Reported r) p b = absurd b
+      go (Refused g) (judgement.Refused h) p b = λ f. (λ e. p f .0 (cc), λ q. let e : Refused g ≡ Refused f = p f .1 q in cc)
 
--- ---- judging
+folded-unchanged : (A : Answers) (x : Reply) (d : List ℕ) (reply : Reply) (new : List ℕ) (f : Refusal) → FoldedAfter A x d reply new → reply ≡ Refused f → new ≡ d
+folded-unchanged A (Count n) d reply new f b e = absurd (count-never f (sym (b .counted) ∙ e))
+folded-unchanged A (Refused g) d reply new f b e = b .1
+
+pub fold-refused : (d : List ℕ) (reply : Reply) (new : List ℕ) → Folded d reply new → RefusesReply reply (inElements d)
+fold-refused d = folded-refused (walked first) (inElements d) (readOf d) d (refused-row d)
+
+pub fold-unchanged : (d : List ℕ) (reply : Reply) (new : List ℕ) (f : Refusal) → Folded d reply new → reply ≡ Refused f → new ≡ d
+fold-unchanged d = folded-unchanged (walked first) (readOf d) d
 
 pub judge-refused : (d : List ℕ) (j : Judgement) → Judged d j → Refuses judgement.Refused j (inElements d)
-judge-refused d j = go (readOf d) j (refused-row d)
+judge-refused d = judged-refused (walked first) (inElements d) (readOf d) d (refused-row d)
+
+combining-refused : (c n : ℕ) → RefusesReply (cond (ltb 2 c) (refusal 11 0 0) (Count n)) (noCombining c)
+combining-refused c n = go (ltb 2 c) refl
   where
-    go : (x : Reply) (j : Judgement) → RefusesReply x (inElements d) → JudgedAfter x d j → Refuses judgement.Refused j (inElements d)
-    go (Count n) (judgement.Reported r) p b =
-        no-refusal judgement.Refused (counted-free p) (λ f e. let z : _≡_ {A = ℕ} 0 1 = cc in omega arith)
-    go (Count n) (judgement.Refused g) p b = absurd b
-    go (Refused g) (judgement.Reported r) p b = absurd b
-    go (Refused g) (judgement.Refused h) p b = λ f. (λ e. p f .0 (cc), λ q. let e : Refused g ≡ Refused f = p f .1 q in cc)
+    go : (t : Bool) → ltb 2 c ≡ t → RefusesReply (cond t (refusal 11 0 0) (Count n)) (noCombining c)
+    go true e = row-here Refused same-refused 11 0 0 _ (ltb-true 2 c e)
+    go false e = no-refusal Refused (row-free (λ l. omega (arith, ltb-false 2 c e))) count-never
+
+module _ (c : ℕ) (d : List ℕ) where
+  asked-refused : RefusesReply (askedFor d c) (inElements d before noCombining c)
+  unfolding askedFor
+  asked-refused = then (readOf d) _ (refused-row d) (λ n e. combining-refused c (records d))
+
+  pub fold-for-refused : (reply : Reply) (new : List ℕ) → FoldedFor c d reply new → RefusesReply reply (inElements d before noCombining c)
+  fold-for-refused = folded-refused (listed c) (inElements d before noCombining c) (askedFor d c) d asked-refused
+
+  pub fold-for-unchanged : (reply : Reply) (new : List ℕ) (f : Refusal) → FoldedFor c d reply new → reply ≡ Refused f → new ≡ d
+  fold-for-unchanged = folded-unchanged (listed c) (askedFor d c) d
+
+  pub judge-for-refused : (j : Judgement) → JudgedFor c d j → Refuses judgement.Refused j (inElements d before noCombining c)
+  judge-for-refused = judged-refused (listed c) (inElements d before noCombining c) (askedFor d c) d asked-refused
 
 -- ---- the view
 

@@ -1,17 +1,29 @@
--- Demand 3 holds. Assumes nothing.
-use Rattle.least.specs.declared.Verdict.the-variants as verdict
-use Rattle.least.proofs.OwnMarks.{own-verdict}
-use Rattle.demands.specs.Demand3.{Demand3}
-use Rattle.demands.proofs.Verdicts.{exactly, least, reported, own-count, own-bounds, own-first}
+-- Demand 3 holds by the walk, and read with each combining number. Assumes nothing.
+use Prim.Native.Nat.{ℕ, _≤_}
+use mathlib.Core.List.{[]}
+use lib.ListN.{length}
+use Rattle.dossier.proofs.Runs.{run-length}
+use Rattle.dossier.proofs.Sounds.{sound-counted}
+use Rattle.rules.specs.Combining.{decision}
+use Rattle.marks.specs.Marks.{first}
+use Rattle.marks.proofs.Forests.{walk-length}
+use Rattle.listing.specs.Listing.{listOf}
+use Rattle.least.proofs.OwnMarks.{asked-few, own-list, own-verdict, own-list-for, own-verdict-for}
+use Rattle.demands.specs.Demand3.{walking, combining, Demand3}
+use Rattle.demands.proofs.Verdicts.{demand-by}
 
-pub demand-3 : Demand3
-demand-3 = record {
-  least = least;
-  longer = λ d r n. exactly d r (verdict.Longer n);
-  wrong = λ d r i a. exactly d r (verdict.Wrong i a);
-  reported = reported;
-  own-least = own-verdict;
-  own-count = own-count;
-  own-bounds = own-bounds;
-  own-first = own-first;
-}
+pub demand-3 : Demand3 walking
+demand-3 = demand-by walking (record {
+  all = λ es ms q. walk-length first [] es ms q;
+  accepted = sound-counted;
+  lists = own-list;
+  judged = own-verdict;
+})
+
+pub demand-3-for : (c : ℕ) → c ≤ 2 → Demand3 (combining c)
+demand-3-for c few = demand-by (combining c) (record {
+  all = λ es ms q. run-length (λ i. decision c es i (listOf es ms)) 0 (length es);
+  accepted = asked-few c few;
+  lists = own-list-for c few;
+  judged = own-verdict-for c few;
+})

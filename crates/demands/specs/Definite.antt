@@ -7,7 +7,7 @@
 -- These promise a relation, and of each `Definite` says that it allows exactly one:
 --   marks: Walk::step, step_in_place
 --   listing: read_back
---   least: fold, judge
+--   least: fold, fold_for, judge, judge_for
 --   view: view
 use mathlib.Core.Path.{_≡_}
 use Prim.Native.Nat.{ℕ}
@@ -16,8 +16,8 @@ use Rattle.dossier.specs.declared.Answer.{Answer}
 use Rattle.marks.specs.Stepping.{Steps}
 use Rattle.marks.specs.declared.Walk.{Walk}
 use Rattle.listing.specs.Back.{Back}
-use Rattle.least.specs.Folding.{Folded}
-use Rattle.least.specs.Judging.{Judged}
+use Rattle.least.specs.Folding.{Folded, FoldedFor}
+use Rattle.least.specs.Judging.{Judged, JudgedFor}
 use Rattle.view.specs.View.{Views}
 
 -- exactly one is allowed: there is one, and any other is the same
@@ -36,4 +36,6 @@ pub record Definite : Type 0 where
   pub read-back : (d rs : List ℕ) → OneReply (Back d rs)
   pub fold : (d : List ℕ) → OneReply (Folded d)
   pub judge : (d : List ℕ) → ExactlyOne (Judged d)
+  pub fold-for : (c : ℕ) (d : List ℕ) → OneReply (FoldedFor c d)
+  pub judge-for : (c : ℕ) (d : List ℕ) → ExactlyOne (JudgedFor c d)
   pub view : (d area : List ℕ) → OneReply (Views d area)

@@ -18,8 +18,8 @@ use Rattle.marks.specs.declared.Walk.{Walk}
 use Rattle.marks.specs.declared.Stepped.{Stepped}
 use Rattle.listing.specs.Area.{listedOf, listReply, listArea}
 use Rattle.listing.specs.Back.{Back}
-use Rattle.least.specs.Folding.{Folded}
-use Rattle.least.specs.Judging.{Judged}
+use Rattle.least.specs.Folding.{Folded, FoldedFor}
+use Rattle.least.specs.Judging.{Judged, JudgedFor}
 use Rattle.least.specs.declared.Judgement.{Judgement}
 use Rattle.least.specs.declared.Judgement.the-variants as judgement
 use Rattle.view.specs.View.{Views}
@@ -46,6 +46,11 @@ pub record Demand1 : Type 0 where
   -- folding and judging by 1 to 6
   pub fold-refused : (d : List ℕ) (reply : Reply) (new : List ℕ) → Folded d reply new → (f : Refusal) → (reply ≡ Refused f) ↔ inElements d f
   pub judge-refused : (d : List ℕ) (reply : Judgement) → Judged d reply → (f : Refusal) → (reply ≡ judgement.Refused f) ↔ inElements d f
+  -- for a combining number by 1 to 6, then 11
+  pub fold-for-refused : (c : ℕ) (d : List ℕ) (reply : Reply) (new : List ℕ) → FoldedFor c d reply new
+      → (f : Refusal) → (reply ≡ Refused f) ↔ (inElements d before noCombining c) f
+  pub judge-for-refused : (c : ℕ) (d : List ℕ) (reply : Judgement) → JudgedFor c d reply
+      → (f : Refusal) → (reply ≡ judgement.Refused f) ↔ (inElements d before noCombining c) f
   -- the view by 1 to 6, then 8
   pub view-refused : (d area : List ℕ) (reply : Reply) (new : List ℕ) → Views d area reply new
       → (f : Refusal) → (reply ≡ Refused f) ↔ (inElements d before tooShortForView d area) f
@@ -56,5 +61,6 @@ pub record Demand1 : Type 0 where
   pub list-unchanged : (d area : List ℕ) (f : Refusal) → listReply d area ≡ Refused f → listArea d area ≡ area
   pub back-unchanged : (d rs : List ℕ) (reply : Reply) (new : List ℕ) (f : Refusal) → Back d rs reply new → reply ≡ Refused f → new ≡ d
   pub fold-unchanged : (d : List ℕ) (reply : Reply) (new : List ℕ) (f : Refusal) → Folded d reply new → reply ≡ Refused f → new ≡ d
+  pub fold-for-unchanged : (c : ℕ) (d : List ℕ) (reply : Reply) (new : List ℕ) (f : Refusal) → FoldedFor c d reply new → reply ≡ Refused f → new ≡ d
   pub view-unchanged : (d area : List ℕ) (reply : Reply) (new : List ℕ) (f : Refusal) → Views d area reply new → reply ≡ Refused f → new ≡ area
   pub step-unchanged : (w : Walk) (r : List ℕ) (s : Stepped) (f : Refusal) → Steps w r s → s .answer ≡ answer.Refused f → s .walk ≡ w

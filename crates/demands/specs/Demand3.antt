@@ -8,7 +8,7 @@ use lib.ListN.{length, getD}
 use Rattle.dossier.specs.Limits.{width}
 use Rattle.dossier.specs.Elements.{Mark, marksOf, is}
 use Rattle.dossier.specs.Bytes.{records, elementAt, elementsOf, withMarks}
-use Rattle.dossier.specs.Reading.{Sound}
+use Rattle.dossier.specs.Reading.{readOf, Sound}
 use Rattle.dossier.specs.declared.Decision.{Decision}
 use Rattle.dossier.specs.declared.Decision.the-variants.{None}
 use Rattle.dossier.specs.declared.Reply.{Reply}
@@ -17,51 +17,75 @@ use Rattle.marks.specs.Marks.{first}
 use Rattle.marks.specs.Walking.{walked}
 use Rattle.listing.specs.Listing.{listOf}
 use Rattle.listing.specs.Area.{listedOf, listReply}
-use Rattle.least.specs.Least.{First}
-use Rattle.least.specs.Folding.{Folded}
-use Rattle.least.specs.Judging.{Longer, Wrong, Judged}
+use Rattle.least.specs.Least.{Answers, listed, First}
+use Rattle.least.specs.Folding.{FoldedAfter, askedFor}
+use Rattle.least.specs.Judging.{Longer, Wrong, JudgedAfter}
 use Rattle.least.specs.declared.Verdict.the-variants as verdict
 use Rattle.least.specs.declared.Report.{Report}
 use Rattle.least.specs.declared.Judgement.{Judgement}
 use Rattle.least.specs.declared.Judgement.the-variants.{Reported}
 
+-- ---- the base, and the demand read with a chosen combining
+
+-- a way to fold and to judge: what marks answer, and what is refused before
+pub record Way : Type 0 where
+  pub answers : Answers
+  pub asked : List ℕ → Reply
+
+-- by the walk
+abbrev pub walking : Way
+walking = record { answers = walked first; asked = readOf }
+
+-- by deciding over the listed rules with a combining number
+abbrev pub combining : ℕ → Way
+combining c = record { answers = listed c; asked = λ d. askedFor d c }
+
+-- what the folder and the judge promise that way: with `walking` these are `Folded` and `Judged`, with `combining c` they are `FoldedFor c` and `JudgedFor c`
+abbrev pub FoldedBy : Way → List ℕ → Reply → List ℕ → Type 0
+FoldedBy w d reply new = FoldedAfter (w .answers) (w .asked d) d reply new
+
+abbrev pub JudgedBy : Way → List ℕ → Judgement → Type 0
+JudgedBy w d j = JudgedAfter (w .answers) (w .asked d) d j
+
+-- ---- the demand
+
 -- a choice of the four marks per element, by which each element gets its set decision
-pub record Right (d : List ℕ) (ms : List Mark) : Type 0 where
+pub record Right (w : Way) (d : List ℕ) (ms : List Mark) : Type 0 where
   pub each : length ms ≡ records d
-  pub gets : (i : ℕ) → i < records d → getD (walked first (elementsOf d) ms) i None ≡ is (elementAt d i .decision)
+  pub gets : (i : ℕ) → i < records d → getD (w .answers (elementsOf d) ms) i None ≡ is (elementAt d i .decision)
 
 -- how many rules marks list
 abbrev pub ruleCount : List ℕ → List Mark → ℕ
 ruleCount d ms = length (listOf (elementsOf d) ms)
 
 -- each element gets its set decision, and no choice of the four marks per element does that with fewer rules
-pub record Least (d : List ℕ) (ms : List Mark) : Type 0 where
-  pub right : Right d ms
-  pub fewest : (other : List Mark) → Right d other → ruleCount d ms ≤ ruleCount d other
+pub record Least (w : Way) (d : List ℕ) (ms : List Mark) : Type 0 where
+  pub right : Right w d ms
+  pub fewest : (other : List Mark) → Right w d other → ruleCount d ms ≤ ruleCount d other
 
 -- the marks that a dossier holds, from anyone
 abbrev pub marksIn : List ℕ → List Mark
 marksIn d = marksOf (elementsOf d)
 
-pub record Demand3 : Type 0 where
+pub record Demand3 (w : Way) : Type 0 where
   -- for every sound dossier and marks from anyone, the judge says "least" exactly when each element gets its set decision and no choice of the four marks per element does that with fewer rules
-  pub least : (d : List ℕ) (r : Report) → Sound d → Judged d (Reported r) → (r .verdict ≡ verdict.Least) ↔ Least d (marksIn d)
-  -- it says longer by n, and wrong at element i with the walk's answer there, exactly when they are
-  pub longer : (d : List ℕ) (r : Report) (n : ℕ) → Sound d → Judged d (Reported r)
-      → (r .verdict ≡ verdict.Longer n) ↔ Longer (walked first) (elementsOf d) (marksIn d) n
-  pub wrong : (d : List ℕ) (r : Report) (i : ℕ) (a : Decision) → Sound d → Judged d (Reported r)
-      → (r .verdict ≡ verdict.Wrong i a) ↔ Wrong (walked first) (elementsOf d) (marksIn d) i a
+  pub least : (d : List ℕ) (r : Report) → Sound d → JudgedBy w d (Reported r) → (r .verdict ≡ verdict.Least) ↔ Least w d (marksIn d)
+  -- it says longer by n, and wrong at element i with its answer there, exactly when they are
+  pub longer : (d : List ℕ) (r : Report) (n : ℕ) → Sound d → JudgedBy w d (Reported r)
+      → (r .verdict ≡ verdict.Longer n) ↔ Longer (w .answers) (elementsOf d) (marksIn d) n
+  pub wrong : (d : List ℕ) (r : Report) (i : ℕ) (a : Decision) → Sound d → JudgedBy w d (Reported r)
+      → (r .verdict ≡ verdict.Wrong i a) ↔ Wrong (w .answers) (elementsOf d) (marksIn d) i a
   -- it always reports, with the number of rules that the marks list
-  pub reported : (d : List ℕ) (j : Judgement) → Sound d → Judged d j → (r : Report) × (j ≡ Reported r) × (r .count ≡ ruleCount d (marksIn d))
+  pub reported : (d : List ℕ) (j : Judgement) → Sound d → JudgedBy w d j → (r : Report) × (j ≡ Reported r) × (r .count ≡ ruleCount d (marksIn d))
   -- the folder's own marks always get that verdict, with the count that the folder reports
-  pub own-least : (d : List ℕ) (n : ℕ) (new : List ℕ) (j : Judgement) → Sound d → Folded d (Count n) new → Judged new j
+  pub own-least : (d : List ℕ) (n : ℕ) (new : List ℕ) (j : Judgement) → Sound d → FoldedBy w d (Count n) new → JudgedBy w new j
       → j ≡ Reported (record { count = n; verdict = verdict.Least })
   -- and that count is the number of rules they list, which the lister replies
-  pub own-count : (d : List ℕ) (n : ℕ) (new : List ℕ) → Sound d → Folded d (Count n) new
+  pub own-count : (d : List ℕ) (n : ℕ) (new : List ℕ) → Sound d → FoldedBy w d (Count n) new
       → (n ≡ length (listedOf new)) × ((area : List ℕ) → n * width ≤ length area → listReply new area ≡ Count n)
   -- the folder always reports a count, at least 1 and at most the number of elements
-  pub own-bounds : (d : List ℕ) (reply : Reply) (new : List ℕ) → Sound d → Folded d reply new
+  pub own-bounds : (d : List ℕ) (reply : Reply) (new : List ℕ) → Sound d → FoldedBy w d reply new
       → (n : ℕ) × (reply ≡ Count n) × (1 ≤ n) × (n ≤ records d)
   -- it writes its marks and no other byte; of several least ones they come first
-  pub own-first : (d : List ℕ) (reply : Reply) (new : List ℕ) → Sound d → Folded d reply new
-      → (ms : List Mark) × (new ≡ withMarks d 0 ms) × Least d ms × ((other : List Mark) → Least d other → First ms other)
+  pub own-first : (d : List ℕ) (reply : Reply) (new : List ℕ) → Sound d → FoldedBy w d reply new
+      → (ms : List Mark) × (new ≡ withMarks d 0 ms) × Least w d ms × ((other : List Mark) → Least w d other → First ms other)

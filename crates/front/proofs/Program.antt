@@ -12,6 +12,8 @@ use Rattle.dossier.specs.declared.Reply.{Reply}
 use Rattle.dossier.specs.declared.Reply.the-variants.{Count, Refused}
 use Rattle.dossier.proofs.Sounds.{counted-sound}
 use Rattle.rules.specs.Rules.{self, all}
+use Rattle.marks.specs.Marks.{first}
+use Rattle.marks.specs.Walking.{walked}
 use Rattle.least.specs.Folding.{FoldedAfter}
 use Rattle.least.proofs.Determined.{folded-unique}
 use Rattle.front.specs.Standing.{mostBytes, Kept}
@@ -33,7 +35,7 @@ refused-whole w d t many same p = go (readOf w) refl
     go : (q : Reply) → readOf w ≡ q → Printed w t
     go (Count n) e = absurd (omega (arith, counted-sound w n e .few))
     go (Refused f) e =
-        let f-d : FoldedAfter (Refused f) d (p .reply) (p .new) = rw (same ∙ e) at (p .folded) in
+        let f-d : FoldedAfter (walked first) (Refused f) d (p .reply) (p .new) = rw (same ∙ e) at (p .folded) in
         record {
           reply = Refused f;
           new = w;

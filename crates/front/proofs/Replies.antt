@@ -19,6 +19,8 @@ use Rattle.rules.specs.Rules.{targetAt, rulesOf, ruleBytes, listBytes}
 use Rattle.rules.proofs.RoundTrip.{rules-back}
 use Rattle.listing.specs.Area.{listedOf, listReply, listArea}
 use Rattle.listing.proofs.ListedSound.{listed-sound}
+use Rattle.marks.specs.Marks.{first}
+use Rattle.marks.specs.Walking.{walked}
 use Rattle.least.specs.Folding.{FoldedAfter, Folded}
 use Rattle.least.proofs.OwnMarks.{own-list}
 use Rattle.front.specs.Standing.{mostBytes}
@@ -85,7 +87,7 @@ module _ (d new : List ℕ) (reply : Reply) (folded : Folded d reply new) where
   pub folded-short : {n : ℕ} → reply ≡ Count n → Short new
   folded-short {n} e = go (readOf d) refl folded
     where
-      go : (q : Reply) → readOf d ≡ q → FoldedAfter q d reply new → Short new
+      go : (q : Reply) → readOf d ≡ q → FoldedAfter (walked first) q d reply new → Short new
       go (Count m) p f =
           let sound = counted-sound d m p in
           let listed = own-list d reply new sound folded in

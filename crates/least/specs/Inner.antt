@@ -1,24 +1,26 @@
 -- What the functions inside the folder and the judge promise each other: the best sums of a branch, and the marks that they choose.
 -- A reader of what those two promise may skip it. Assumes nothing: these are definitions.
 use mathlib.Core.Path.{_≡_}
-use Prim.Native.Nat.{ℕ, suc, _+_, _*_, _-_, _/_, _%_, _≤_, _<_}
+use Prim.Native.Nat.{ℕ, zero, suc, _+_, _*_, _-_, _/_, _%_, _≤_, _<_}
 use mathlib.Core.Bool.{Bool, true, false, cond}
 use mathlib.Core.List.{List}
 use lib.ListN.{length, getD}
 use lib.Dec.{leb, eqb}
 use Rattle.dossier.specs.Limits.{deepest, mostElements}
-use Rattle.dossier.specs.Elements.{Effect, Mark, mn, m-, m+, m±, Element, marksOf, effectOf, markNumber}
-use Rattle.dossier.specs.Bytes.{records, byteOf, run, depthAt, elementAt, elementsOf, withMarks}
+use Rattle.dossier.specs.Elements.{Effect, Mark, mn, m-, m+, m±, Element, marksOf, opposite, markNumber, decisionNumber, effectOf, markOf}
+use Rattle.dossier.specs.Bytes.{records, run, depthAt, elementAt, elementsOf, withMarks}
 use Rattle.dossier.specs.Reading.{Sound}
 use Rattle.dossier.specs.declared.Decision.{Decision}
 use Rattle.dossier.specs.declared.Decision.the-variants.{Deny, Permit, None}
 use Rattle.dossier.proofs.Forest.{Forest, nil, node, sizeF}
 use Rattle.dossier.proofs.Under.{under}
 use Rattle.rules.specs.Combining.{gives}
+use Rattle.rules.specs.Exchange.{turned}
 use Rattle.marks.specs.Marks.{Gateway, first}
-use Rattle.marks.specs.Walking.{walked}
+use Rattle.marks.specs.Stepping.{fromAbove}
 use Rattle.listing.specs.Inner.{cost}
-use Rattle.least.specs.Least.{Right, Fold}
+use Rattle.listing.proofs.Overrides.{denying}
+use Rattle.least.specs.Least.{listed, Right, Fold}
 use Rattle.least.specs.Judging.{Wrong}
 use Rattle.least.specs.declared.Verdict.{Verdict}
 use Rattle.least.specs.declared.Verdict.the-variants as verdict
@@ -29,9 +31,32 @@ use Rattle.least.specs.declared.Branch.{Branch}
 use Rattle.least.specs.declared.Priced.{Priced}
 use Rattle.least.specs.declared.Chosen.{Chosen}
 
--- how a gateway of this number combines: there is first applicable alone
-unfoldable pub gatewayOf : ℕ → Gateway
-gatewayOf c = first
+-- ---- the gateway of a combining number
+
+-- first applicable, or deny overrides; permit overrides is deny overrides with permit and deny exchanged
+abbrev pub gatewayOf : ℕ → Gateway
+gatewayOf zero = first
+gatewayOf (suc c) = denying
+
+-- what an answer of that gateway is
+abbrev pub turnedFor : ℕ → Decision → Decision
+turnedFor zero v = v
+turnedFor (suc zero) v = v
+turnedFor (suc (suc c)) v = turned v
+
+-- what a set decision is to that gateway, and so an element
+abbrev pub effectFor : ℕ → Effect → Effect
+effectFor zero e = e
+effectFor (suc zero) e = e
+effectFor (suc (suc c)) e = opposite e
+
+abbrev pub seenBy : ℕ → Element → Element
+seenBy c e = record { depth = e .depth; decision = effectFor c (e .decision); mark = e .mark; key = e .key }
+
+abbrev pub elementFor : ℕ → List ℕ → ℕ → Element
+elementFor c d i = seenBy c (elementAt d i)
+
+-- ---- the best sums of a forest, for any gateway
 
 -- the mark with the smaller price, and where they are equal the first
 unfoldable pub better : (Mark → ℕ) → Mark → Mark → Mark
@@ -107,28 +132,28 @@ packOf n d p = record {
   marks = n .mark + d .mark * 4 + p .mark * 16;
 }
 
--- the mark chosen for an element of this decision byte, where `s` are the best sums below; and its price
-abbrev pub markBy : ℕ → ℕ → (Decision → ℕ) → Decision → Mark
-markBy c decision s v = choose (price (gatewayOf c) wrongCost (effectOf decision) v s)
+-- the mark chosen for an element of this set decision, where `s` are the best sums below; and its price
+abbrev pub markBy : ℕ → Effect → (Decision → ℕ) → Decision → Mark
+markBy c e s v = choose (price (gatewayOf c) wrongCost e v s)
 
-abbrev pub bestBy : ℕ → ℕ → (Decision → ℕ) → Decision → ℕ
-bestBy c decision s v = price (gatewayOf c) wrongCost (effectOf decision) v s (markBy c decision s v)
+abbrev pub bestBy : ℕ → Effect → (Decision → ℕ) → Decision → ℕ
+bestBy c e s v = price (gatewayOf c) wrongCost e v s (markBy c e s v)
 
-abbrev pub chosenOf : ℕ → ℕ → (Decision → ℕ) → Chosen
-chosenOf c decision s = record { sums = sumsOf (bestBy c decision s); marks = packed (markBy c decision s) }
+abbrev pub chosenOf : ℕ → Effect → (Decision → ℕ) → Chosen
+chosenOf c e s = record { sums = sumsOf (bestBy c e s); marks = packed (markBy c e s) }
 
 -- ---- by position
 
 -- what lies below the element at `at`
-abbrev pub below : List ℕ → ℕ → Forest
-below d at = under (depthAt d at) (run (elementAt d) (at + 1) (records d - (at + 1)))
+abbrev pub below : ℕ → List ℕ → ℕ → Forest
+below c d at = under (depthAt d at) (run (elementFor c d) (at + 1) (records d - (at + 1)))
 
 -- what is chosen at `at`
 abbrev pub chosenAt : ℕ → List ℕ → ℕ → Chosen
-chosenAt c d at = chosenOf c (byteOf d at 1) (sums (gatewayOf c) wrongCost (below d at))
+chosenAt c d at = chosenOf c (elementFor c d at .decision) (sums (gatewayOf c) wrongCost (below c d at))
 
 abbrev pub branchOf : ℕ → List ℕ → ℕ → Branch
-branchOf c d at = record { sums = chosenAt c d at .sums; next = at + 1 + sizeF (below d at) }
+branchOf c d at = record { sums = chosenAt c d at .sums; next = at + 1 + sizeF (below c d at) }
 
 -- what is asked where the recursion comes to `at` with `left` levels left
 pub record Ready (d plan : List ℕ) (at left : ℕ) : Type 0 where
@@ -150,16 +175,25 @@ pub record Planned (c : ℕ) (d : List ℕ) (lo hi : ℕ) (was new : List ℕ) :
 unfoldable pub unpackOf : ℕ → ℕ → ℕ
 unpackOf marks value = cond (eqb value 0) (marks / 4 % 4) (cond (eqb value 1) (marks / 16 % 4) (marks % 4))
 
+-- what an element of this depth, set decision and mark is answered under a combining, and what it hands down, where a lent array holds what the open depths do
+abbrev pub answersOf : ℕ → List ℕ → ℕ → ℕ → ℕ → ℕ
+answersOf c handed depth decision mark =
+    decisionNumber (turnedFor c (gatewayOf c .answer (markOf mark) (effectFor c (effectOf decision)) (fromAbove handed depth)))
+
+abbrev pub handsOf : ℕ → List ℕ → ℕ → ℕ → ℕ → ℕ
+handsOf c handed depth decision mark =
+    decisionNumber (gatewayOf c .hand (markOf mark) (effectFor c (effectOf decision)) (fromAbove handed depth))
+
 -- a plan of the whole dossier
-pub record Placed (d plan : List ℕ) : Type 0 where
+pub record Placed (c : ℕ) (d plan : List ℕ) : Type 0 where
   pub sound : Sound d
   pub room : records d ≤ length plan
-  pub planned : (k : ℕ) → k < records d → getD plan k 0 ≡ chosenAt 0 d k .marks
+  pub planned : (k : ℕ) → k < records d → getD plan k 0 ≡ chosenAt c d k .marks
 
 -- the folder's marks are written, and no other byte
-pub record Written (d new : List ℕ) : Type 0 where
+pub record Written (c : ℕ) (d new : List ℕ) : Type 0 where
   pub marks : List Mark
-  pub folds : Fold (walked first) (elementsOf d) marks
+  pub folds : Fold (listed c) (elementsOf d) marks
   pub written : new ≡ withMarks d 0 marks
 
 -- ---- the folder and the judge
@@ -170,13 +204,13 @@ pub record Planning (d plan : List ℕ) : Type 0 where
   pub room : records d ≤ length plan
 
 -- the best sum of the root's branch
-abbrev pub leastOf : List ℕ → ℕ
-leastOf d = branchOf 0 d 0 .sums .none
+abbrev pub leastOf : ℕ → List ℕ → ℕ
+leastOf c d = branchOf c d 0 .sums .none
 
 -- the marks that a dossier holds are right, or wrong first at an element
-abbrev pub Finds : List ℕ → Found → Type 0
-Finds d (Otherwise i a) = Wrong (walked first) (elementsOf d) (marksOf (elementsOf d)) i a
-Finds d Nothing = Right (walked first) (elementsOf d) (marksOf (elementsOf d))
+abbrev pub Finds : ℕ → List ℕ → Found → Type 0
+Finds c d (Otherwise i a) = Wrong (listed c) (elementsOf d) (marksOf (elementsOf d)) i a
+Finds c d Nothing = Right (listed c) (elementsOf d) (marksOf (elementsOf d))
 
 unfoldable pub excessOf : ℕ → ℕ → Verdict
 excessOf n least = cond (leb n least) verdict.Least (verdict.Longer (n - least))

@@ -1,4 +1,4 @@
-// What a marking answers, by the definition alone: its rules are listed, and the first that applies to an element decides it.
+// What a marking answers, by the definition alone: its rules are listed, and those that apply to an element decide it, as they are combined.
 
 // The effect of the first of an element's own rules that applies to the element itself, or to one below it; 2 where none does.
 fn own_effect(mark: u8, decision: u8, itself: bool, below: bool) -> u8 {
@@ -21,7 +21,7 @@ fn own_effect(mark: u8, decision: u8, itself: bool, below: bool) -> u8 {
 }
 
 // The effect of the first listed rule that applies to element i, or 2.
-fn answer(
+fn first_effect(
     covers: &[u8; 64],
     order: &[u8; 8],
     decisions: &[u8; 8],
@@ -41,11 +41,86 @@ fn answer(
     2
 }
 
+// Whether one of an element's own rules has this effect and applies to the element itself, or to one below it. A ± sets two rules:
+// its decision on self, and the opposite on all, which takes in the element itself.
+fn has_effect(mark: u8, decision: u8, itself: bool, below: bool, effect: u8) -> bool {
+    if mark == 0 {
+        return false;
+    }
+    if effect != decision {
+        if mark == 3 {
+            return below;
+        }
+        return false;
+    }
+    if mark == 2 {
+        return below;
+    }
+    itself
+}
+
+// Whether any listed rule with this effect applies to element i.
+fn any_has(
+    covers: &[u8; 64],
+    decisions: &[u8; 8],
+    marks: &[u8; 8],
+    n: usize,
+    i: usize,
+    effect: u8,
+) -> bool {
+    let mut k: usize = 0;
+    while k < n {
+        let q = k % 8;
+        let below = covers[q * 8 + i % 8] == 1;
+        if has_effect(marks[q], decisions[q], q == i, below, effect) {
+            return true;
+        }
+        k += 1;
+    }
+    false
+}
+
+// What is answered under deny overrides (1) or permit overrides (2), where a deny and where a permit applies: the one that overrides
+// where it does, else the other where that does, else 2.
+fn overriding(combining: usize, denies: bool, permits: bool) -> u8 {
+    if combining == 1 {
+        if denies {
+            return 0;
+        }
+    }
+    if permits {
+        return 1;
+    }
+    if denies {
+        return 0;
+    }
+    2
+}
+
+// What the listed rules answer for element i under this combining.
+fn answer(
+    combining: usize,
+    covers: &[u8; 64],
+    order: &[u8; 8],
+    decisions: &[u8; 8],
+    marks: &[u8; 8],
+    n: usize,
+    i: usize,
+) -> u8 {
+    if combining == 0 {
+        return first_effect(covers, order, decisions, marks, n, i);
+    }
+    let denies = any_has(covers, decisions, marks, n, i, 0);
+    let permits = any_has(covers, decisions, marks, n, i, 1);
+    overriding(combining, denies, permits)
+}
+
 // What `first_wrong` replies where every element is answered as it is set.
 pub const RIGHT: usize = 99;
 
 // The first element that is answered otherwise than it is set, times 4, plus its answer.
 pub(crate) fn first_wrong(
+    combining: usize,
     covers: &[u8; 64],
     order: &[u8; 8],
     decisions: &[u8; 8],
@@ -54,7 +129,7 @@ pub(crate) fn first_wrong(
 ) -> usize {
     let mut i: usize = 0;
     while i < n {
-        let given = answer(covers, order, decisions, marks, n, i);
+        let given = answer(combining, covers, order, decisions, marks, n, i);
         if given != decisions[i % 8] {
             return i % 8 * 4 + wide(given) % 4;
         }

@@ -53,10 +53,24 @@ fn same_count(reply: Reply, count: usize) -> bool {
     }
 }
 
-// Whether the folder turns the n elements `found` into `wanted` byte for byte, and replies with this count.
-pub(crate) fn folds_so(found: [u8; 64], wanted: [u8; 64], n: usize, count: usize) -> bool {
+// The folder for this combining; first applicable has one of its own.
+fn fold(combining: usize, d: &mut [u8]) -> Reply {
+    if combining == 0 {
+        return least::fold(d);
+    }
+    least::fold_for(d, combining)
+}
+
+// Whether that folder turns the n elements `found` into `wanted` byte for byte, and replies with this count.
+pub(crate) fn folds_so(
+    combining: usize,
+    found: [u8; 64],
+    wanted: [u8; 64],
+    n: usize,
+    count: usize,
+) -> bool {
     let mut d = found;
-    let reply = least::fold(&mut d[..n % 8 * 8]);
+    let reply = fold(combining, &mut d[..n % 8 * 8]);
     if same_count(reply, count) {
         return same_bytes(d, wanted);
     }
@@ -108,9 +122,24 @@ fn reported_so(report: Report, count: usize, wrong: usize, least: usize) -> bool
     false
 }
 
-// Whether the judge reports on the n elements what is so of them.
-pub(crate) fn judges_so(d: [u8; 64], n: usize, count: usize, wrong: usize, least: usize) -> bool {
-    match least::judge(&d[..n % 8 * 8]) {
+// The judge for this combining; first applicable has one of its own.
+fn judge(combining: usize, d: &[u8]) -> Judgement {
+    if combining == 0 {
+        return least::judge(d);
+    }
+    least::judge_for(d, combining)
+}
+
+// Whether that judge reports on the n elements what is so of them.
+pub(crate) fn judges_so(
+    combining: usize,
+    d: [u8; 64],
+    n: usize,
+    count: usize,
+    wrong: usize,
+    least: usize,
+) -> bool {
+    match judge(combining, &d[..n % 8 * 8]) {
         Judgement::Reported(report) => reported_so(report, count, wrong, least),
         Judgement::Refused(_) => false,
     }

@@ -1,12 +1,13 @@
-// The independent second program. For every dossier of up to seven elements it tries all markings by the definition alone
-// (list the rules, decide every element by the first that applies, count), finds the least count and the first least marking,
-// and holds the library's folder and judge to them. It shares nothing with the library but the layout of the bytes.
+// The independent second program. For every dossier of up to seven elements, six where any deny or any permit wins, it tries all
+// markings by the definition alone (list the rules, decide every element by those that apply, count), finds the least count and
+// the first least marking, and holds the library's folder and judge to them. It shares nothing with the library but the layout
+// of the bytes.
 mod answers;
 mod library;
 mod tree;
 mod turns;
 
-// The most elements of a dossier that is tried.
+// The most elements of a dossier that is tried for first applicable; for the other combinings it is one fewer.
 const SIZE: usize = 7;
 
 // Of dossiers of that size every 61st marking is judged, counted on from one dossier to the next: an odd number, so that
@@ -41,7 +42,13 @@ fn one_unless(fine: bool) -> u64 {
 
 // Goes through every marking in their order, and decides the elements of each that lists fewer rules than the best so far: one that
 // lists as many or more can be neither less nor the first of the least.
-fn best_of(covers: &[u8; 64], order: &[u8; 8], decisions: &[u8; 8], n: usize) -> Best {
+fn best_of(
+    combining: usize,
+    covers: &[u8; 64],
+    order: &[u8; 8],
+    decisions: &[u8; 8],
+    n: usize,
+) -> Best {
     let mut least: usize = 99;
     let mut first = [0u8; 8];
     let mut marks = [0u8; 8];
@@ -49,7 +56,9 @@ fn best_of(covers: &[u8; 64], order: &[u8; 8], decisions: &[u8; 8], n: usize) ->
     while left > 0 {
         let count = answers::count(&marks, n);
         if count < least {
-            if answers::first_wrong(covers, order, decisions, &marks, n) == answers::RIGHT {
+            if answers::first_wrong(combining, covers, order, decisions, &marks, n)
+                == answers::RIGHT
+            {
                 least = count;
                 first = marks;
             }
@@ -71,12 +80,12 @@ fn best_of(covers: &[u8; 64], order: &[u8; 8], decisions: &[u8; 8], n: usize) ->
 }
 
 // Whether the folder turns a dossier whose marks are all others into the best marking, and the judge says that it is least.
-fn folds_one(depths: [u8; 8], decisions: [u8; 8], n: usize, best: Best) -> bool {
+fn folds_one(combining: usize, depths: [u8; 8], decisions: [u8; 8], n: usize, best: Best) -> bool {
     let marks = best.marks;
     let wanted = library::bytes_of(depths, decisions, marks, n);
     let found = library::bytes_of(depths, decisions, library::other_marks(marks), n);
-    if library::folds_so(found, wanted, n, best.count) {
-        return library::judges_so(wanted, n, best.count, answers::RIGHT, best.count);
+    if library::folds_so(combining, found, wanted, n, best.count) {
+        return library::judges_so(combining, wanted, n, best.count, answers::RIGHT, best.count);
     }
     false
 }
@@ -95,6 +104,7 @@ fn folded(tally: Tally, count: usize, fine: bool) -> Tally {
 
 // Whether the judge says of one marking what is so.
 fn judges_one(
+    combining: usize,
     covers: &[u8; 64],
     order: &[u8; 8],
     depths: [u8; 8],
@@ -104,9 +114,9 @@ fn judges_one(
     least: usize,
 ) -> bool {
     let count = answers::count(&marks, n);
-    let wrong = answers::first_wrong(covers, order, &decisions, &marks, n);
+    let wrong = answers::first_wrong(combining, covers, order, &decisions, &marks, n);
     let d = library::bytes_of(depths, decisions, marks, n);
-    library::judges_so(d, n, count, wrong, least)
+    library::judges_so(combining, d, n, count, wrong, least)
 }
 
 // Whether the marking of this number is judged.
@@ -143,6 +153,7 @@ fn judged(tally: Tally, fine: bool) -> Tally {
 
 // Holds the judge to the markings of a dossier.
 fn judge_all(
+    combining: usize,
     covers: &[u8; 64],
     order: &[u8; 8],
     depths: [u8; 8],
@@ -158,7 +169,7 @@ fn judge_all(
         if due(sum.markings, n) {
             sum = judged(
                 sum,
-                judges_one(covers, order, depths, decisions, marks, n, least),
+                judges_one(combining, covers, order, depths, decisions, marks, n, least),
             );
         } else {
             sum = passed(sum);
@@ -174,16 +185,29 @@ fn judge_all(
 }
 
 // Every choice of decisions over one tree.
-fn try_tree(depths: [u8; 8], n: usize, tally: Tally) -> Tally {
+fn try_tree(combining: usize, depths: [u8; 8], n: usize, tally: Tally) -> Tally {
     let covers = tree::covers_of(depths, n);
     let order = tree::order_of(&covers, n);
     let mut sum = tally;
     let mut decisions = [0u8; 8];
     let mut left: usize = 256;
     while left > 0 {
-        let best = best_of(&covers, &order, &decisions, n);
-        sum = folded(sum, best.count, folds_one(depths, decisions, n, best));
-        sum = judge_all(&covers, &order, depths, decisions, n, best.count, sum);
+        let best = best_of(combining, &covers, &order, &decisions, n);
+        sum = folded(
+            sum,
+            best.count,
+            folds_one(combining, depths, decisions, n, best),
+        );
+        sum = judge_all(
+            combining,
+            &covers,
+            &order,
+            depths,
+            decisions,
+            n,
+            best.count,
+            sum,
+        );
         let next = turns::next_digits(decisions, n, 2);
         if next.done {
             return sum;
@@ -195,7 +219,7 @@ fn try_tree(depths: [u8; 8], n: usize, tally: Tally) -> Tally {
 }
 
 // Every tree of n elements.
-fn try_size(n: usize) -> Tally {
+fn try_size(combining: usize, n: usize) -> Tally {
     let mut depths = turns::first_depths();
     let mut sum = Tally {
         dossiers: 0,
@@ -207,7 +231,7 @@ fn try_size(n: usize) -> Tally {
     };
     let mut left: usize = 1024;
     while left > 0 {
-        sum = try_tree(depths, n, sum);
+        sum = try_tree(combining, depths, n, sum);
         let next = turns::next_depths(depths, n);
         if next.done {
             return sum;
@@ -219,7 +243,8 @@ fn try_size(n: usize) -> Tally {
 }
 
 // One line: what was tried of this size.
-fn say(n: usize, tally: Tally) {
+fn say(heading: &[u8], n: usize, tally: Tally) {
+    io::write_all(1, heading);
     io::print_decimal(1, n as u64);
     io::write_all(1, b" elements: ");
     io::print_decimal(1, tally.dossiers);
@@ -234,11 +259,18 @@ fn say(n: usize, tally: Tally) {
     io::write_all(1, b"\n");
 }
 
-// Every size, a line each.
-fn main() {
-    let mut n: usize = 1;
-    while n <= SIZE {
-        say(n, try_size(n));
+// Every size up to the most, a line each.
+fn try_sizes(heading: &[u8], combining: usize, most: usize) {
+    let mut n: usize = 0;
+    while n < most {
         n += 1;
+        say(heading, n, try_size(combining, n));
     }
+}
+
+// Every combining.
+fn main() {
+    try_sizes(b"", 0, SIZE);
+    try_sizes(b"deny overrides, ", 1, SIZE - 1);
+    try_sizes(b"permit overrides, ", 2, SIZE - 1);
 }

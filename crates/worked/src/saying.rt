@@ -8,6 +8,12 @@ use least::Report;
 use least::Verdict;
 use libc::STDOUT_FILENO;
 
+// The combining of a call to the folder or the judge: not said, and then it is first applicable, or said by its number.
+pub enum Combining {
+    Unsaid,
+    Said(usize),
+}
+
 // Prints words as they stand.
 pub(crate) fn say(words: &[u8]) {
     io::write_all(STDOUT_FILENO, words);
@@ -31,6 +37,30 @@ pub(crate) fn say_refusal(f: Refusal) {
     say_number(f.list as usize);
     say(b" ");
     say_number(f.position);
+}
+
+// A combining by its number.
+fn say_numbered(number: usize) {
+    match number {
+        0 => say(b"first applicable"),
+        1 => say(b"deny overrides"),
+        2 => say(b"permit overrides"),
+        _ => {
+            say(b"combining ");
+            say_number(number);
+        }
+    }
+}
+
+// A combining where it is said, after a comma.
+pub(crate) fn say_combining(combining: Combining) {
+    match combining {
+        Combining::Unsaid => {}
+        Combining::Said(number) => {
+            say(b", ");
+            say_numbered(number);
+        }
+    }
 }
 
 // A reply that counts elements.

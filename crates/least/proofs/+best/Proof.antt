@@ -3,12 +3,11 @@ use mathlib.Core.Path.{ap, ap₂, subst, _∙_}
 use Prim.Native.Nat.{_+_, _-_}
 use native.Mathlib.Omega.{arith}
 use mathlib.Core.Logic.{⊎-elim}
-use lib.ListN.{length-set}
-use Rattle.dossier.specs.Bytes.{records, byteOf}
+use Rattle.dossier.specs.Bytes.{records}
 use Rattle.least.specs.declared.Sums.{Sums}
 use Rattle.least.specs.declared.Branch.{Branch}
 use Rattle.least.specs.declared.Chosen.{Chosen}
-use Rattle.least.specs.Inner.{plusOf, chosenOf, Planned}
+use Rattle.least.specs.Inner.{elementFor, plusOf, chosenOf, Planned}
 use Rattle.least.proofs.Branches.{Summed, start, turn, over-end, over-out, small}
 use Rattle.least.proofs.Plans.{planned-none, planned-more, planned-first}
 use Prim.Native.Nat.{ℕ, _<_}
@@ -38,10 +37,10 @@ abbrev claims : ℕ → best-lts.Claims
 claims t = (best-below t, best.Post, plus-reads.Asked, plus-reads.Learnt, choose-reads.Asked, choose-reads.Learnt)
 
 abbrev best-Inv-loop : best-lts.InvT-loop
-best-Inv-loop d plan₀ gateway at left count depth sums₀ p₀ plan sums p = Summed gateway d at p sums × Planned gateway d (at + 1) p plan₀ plan
+best-Inv-loop d plan₀ combining at left count depth sums₀ p₀ plan sums p = Summed combining d at p sums × Planned combining d (at + 1) p plan₀ plan
 
 abbrev best-μ-loop : best-lts.MeasureT-loop
-best-μ-loop d plan₀ gateway at left count depth sums₀ p₀ plan sums p = records d - p
+best-μ-loop d plan₀ combining at left count depth sums₀ p₀ plan sums p = records d - p
 
 best-mul-depth : (t : ℕ) → best-lts.Need-mul-depth (claims t) (best-at t) best.Post best-Inv-loop best-μ-loop
 best-mul-depth t c = omega arith
@@ -53,7 +52,7 @@ best-add-p : (t : ℕ) → best-lts.Need-add-p (claims t) (best-at t) best.Post 
 best-add-p t c = omega arith
 
 best-loop-holds : (t : ℕ) → best-lts.Need-loop-holds (claims t) (best-at t) best.Post best-Inv-loop best-μ-loop
-best-loop-holds t c = (start _ _ _ (c .before .before .before .pre .1 .there), planned-none _ _ _ _)
+best-loop-holds t c = (start _ _ _ (c .before .before .pre .1 .there), planned-none _ _ _ _)
 
 best-mul-if1 : (t : ℕ) → best-lts.Need-mul-if1 (claims t) (best-at t) best.Post best-Inv-loop best-μ-loop
 best-mul-if1 t c = omega arith
@@ -63,12 +62,12 @@ best-shared-slice-read-if1 t c = omega arith
 
 best-sub-best : (t : ℕ) → best-lts.Need-sub-best (claims t) (best-at t) best.Post best-Inv-loop best-μ-loop
 best-sub-best t c =
-    let s = c .before .before .before .before .before .before .before .before in
+    let s = c .before .before .before .before .before .before .before in
     omega (arith, s .pre .1 .sound .shallow (s .args .at) (s .pre .1 .there))
 
 best-best-requires : (t : ℕ) → best-lts.Need-best-requires (claims t) (best-at t) best.Post best-Inv-loop best-μ-loop
 best-best-requires t c κs =
-    let s = c .before .before .before .before .before .before .before .before in
+    let s = c .before .before .before .before .before .before .before in
     let ready = s .pre .1 in
     let there = c .before .before .before .loop-test .taken in
     let deep = c .before .if1 .left in
@@ -79,9 +78,9 @@ best-best-requires t c κs =
 -- a child's branch is summed
 turned : (t : ℕ) (c : best-lts.After-best (claims t) (best-at t) best.Post best-Inv-loop best-μ-loop)
     → Summed
-    (c .before .before .before .before .before .before .before .before .before .args .gateway)
-    (c .before .before .before .before .before .before .before .before .before .args .d .now)
-    (c .before .before .before .before .before .before .before .before .before .args .at)
+    (c .before .before .before .before .before .before .before .before .args .combining)
+    (c .before .before .before .before .before .before .before .before .args .d .now)
+    (c .before .before .before .before .before .before .before .before .args .at)
     (c .best .result .next)
     (plusOf (c .before .before .before .before .before .loop .sums) (c .best .result .sums))
 turned t c =
@@ -90,15 +89,15 @@ turned t c =
 
 best-plus-requires : (t : ℕ) → best-lts.Need-plus-requires (claims t) (best-at t) best.Post best-Inv-loop best-μ-loop
 best-plus-requires t c κs =
-    let s = c .before .before .before .before .before .before .before .before .before .before .before .before in
-    small _ _ _ _ _ (turned t (c .before .before .before)) (s .pre .1 .sound)
+    let s = c .before .before .before .before .before .before .before .before .before in
+    small _ _ _ _ _ (turned t (c .before)) (s .pre .1 .sound)
 
 best-loop-less : (t : ℕ) → best-lts.Need-loop-less (claims t) (best-at t) best.Post best-Inv-loop best-μ-loop
-best-loop-less t c = omega (arith, ap (λ (b : Branch). b .next) (c .before .before .before .before .best .ensures .0))
+best-loop-less t c = omega (arith, ap (λ (b : Branch). b .next) (c .before .before .best .ensures .0))
 
 best-loop-again : (t : ℕ) → best-lts.Need-loop-again (claims t) (best-at t) best.Post best-Inv-loop best-μ-loop
 best-loop-again t c =
-    let called = c .before .before .before .before in
+    let called = c .before .before in
     let inv = called .before .before .before .before .before .loop .inv in
     let next = ap (λ (b : Branch). b .next) (called .best .ensures .0) in (
       rw (c .plus .ensures) (turned t called),
@@ -116,18 +115,16 @@ best-shared-slice-read-choose t c = omega arith
 
 best-choose-requires : (t : ℕ) → best-lts.Need-choose-requires (claims t) (best-at t) best.Post best-Inv-loop best-μ-loop
 best-choose-requires t c κs =
-    let s = c .before .before .before .before .before .before in
-    small _ _ _ _ _ (c .before .before .loop .inv .0) (s .pre .1 .sound)
+    let s = c .before .before .before .before .before in
+    let ready = s .pre .1 in
+    (ready .sound .decisions (s .args .at) (ready .there), small _ _ _ _ _ (c .before .before .loop .inv .0) (ready .sound))
 
-best-slice-write-plan : (t : ℕ) → best-lts.Need-slice-write-plan (claims t) (best-at t) best.Post best-Inv-loop best-μ-loop
-best-slice-write-plan t c = omega arith
-
-best-same-length : (t : ℕ) → best-lts.Need-same-length (claims t) (best-at t) best.Post best-Inv-loop best-μ-loop
-best-same-length t c = simp length-set (c .before .before .before .before .loop .inv .1 .long)
+best-element-write-plan : (t : ℕ) → best-lts.Need-element-write-plan (claims t) (best-at t) best.Post best-Inv-loop best-μ-loop
+best-element-write-plan t c = omega arith
 
 best-returns : (t : ℕ) → best-lts.Need-returns (claims t) (best-at t) best.Post best-Inv-loop best-μ-loop
 best-returns t c =
-    let s = c .before .before .before .before .before .before .before .before in
+    let s = c .before .before .before .before .before .before .before in
     let d = s .args .d .now in
     let at = s .args .at in
     let inv = c .before .before .before .before .loop .inv in
@@ -135,8 +132,8 @@ best-returns t c =
     (λ w. over-end _ _ _ _ _ (inv .0) (w .left))
     (λ w. over-out _ _ _ _ _ (inv .0) (w .0 .taken) (w .2 .taken))
     (c .before .before .before .loop-test .came) in
-    let chosen = c .before .choose .ensures ∙ ap (chosenOf (s .args .gateway) (byteOf d at 1)) (over .0) in
-    let planned = subst (λ (n : ℕ). Planned (s .args .gateway) d (at + 1) n (s .args .plan .now) (c .before .before .before .before .loop .plan)) (over .1) (inv .1) in (
+    let chosen = c .before .choose .ensures ∙ ap (chosenOf (s .args .combining) (elementFor (s .args .combining) d at .decision)) (over .0) in
+    let planned = subst (λ (n : ℕ). Planned (s .args .combining) d (at + 1) n (s .args .plan .now) (c .before .before .before .before .loop .plan)) (over .1) (inv .1) in (
       ap₂ branch-of (ap (λ (x : Chosen). x .sums) chosen) (over .1),
       planned-first _ _ _ _ _ _ _ (omega arith) (omega arith) (ap (λ (x : Chosen). x .marks) chosen) planned,
     )
@@ -162,6 +159,5 @@ pub +best-spec : {M : Type 1} → statement M
     (best-add-choose t)
     (best-shared-slice-read-choose t)
     (best-choose-requires t)
-    (best-slice-write-plan t)
-    (best-same-length t)
+    (best-element-write-plan t)
     (best-returns t)

@@ -4,10 +4,10 @@ use Rattle.tries.proofs.best_of.Statement.{statement}
 use Rattle.tries.proofs.best_of.Tie as tie
 
 abbrev Inv-loop : tie.InvT-loop
-Inv-loop covers order decisions n least₀ first₀ marks₀ left₀ least first marks left = Unit {0}
+Inv-loop combining covers order decisions n least₀ first₀ marks₀ left₀ least first marks left = Unit {0}
 
 abbrev μ-loop : tie.MeasureT-loop
-μ-loop covers order decisions n least₀ first₀ marks₀ left₀ least first marks left = left
+μ-loop combining covers order decisions n least₀ first₀ marks₀ left₀ least first marks left = left
 
 loop-holds : tie.Need-loop-holds Inv-loop μ-loop
 loop-holds c = search needs

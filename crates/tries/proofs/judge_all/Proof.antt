@@ -4,10 +4,10 @@ use Rattle.tries.proofs.judge_all.Statement.{statement}
 use Rattle.tries.proofs.judge_all.Tie as tie
 
 abbrev Inv-loop : tie.InvT-loop
-Inv-loop covers order depths decisions n least sum₀ marks₀ left₀ sum marks left = Unit {0}
+Inv-loop combining covers order depths decisions n least sum₀ marks₀ left₀ sum marks left = Unit {0}
 
 abbrev μ-loop : tie.MeasureT-loop
-μ-loop covers order depths decisions n least sum₀ marks₀ left₀ sum marks left = left
+μ-loop combining covers order depths decisions n least sum₀ marks₀ left₀ sum marks left = left
 
 loop-holds : tie.Need-loop-holds Inv-loop μ-loop
 loop-holds c = search needs

@@ -4,10 +4,10 @@ use Rattle.tries.proofs.try_size.Statement.{statement}
 use Rattle.tries.proofs.try_size.Tie as tie
 
 abbrev Inv-loop : tie.InvT-loop
-Inv-loop n depths₀ sum₀ left₀ depths sum left = Unit {0}
+Inv-loop combining n depths₀ sum₀ left₀ depths sum left = Unit {0}
 
 abbrev μ-loop : tie.MeasureT-loop
-μ-loop n depths₀ sum₀ left₀ depths sum left = left
+μ-loop combining n depths₀ sum₀ left₀ depths sum left = left
 
 first-depths-requires : tie.Need-first-depths-requires Inv-loop μ-loop
 first-depths-requires c κs = search needs

@@ -4,10 +4,10 @@ use Rattle.tries.proofs.try_tree.Statement.{statement}
 use Rattle.tries.proofs.try_tree.Tie as tie
 
 abbrev Inv-loop : tie.InvT-loop
-Inv-loop depths n covers order sum₀ decisions₀ left₀ sum decisions left = Unit {0}
+Inv-loop combining depths n covers order sum₀ decisions₀ left₀ sum decisions left = Unit {0}
 
 abbrev μ-loop : tie.MeasureT-loop
-μ-loop depths n covers order sum₀ decisions₀ left₀ sum decisions left = left
+μ-loop combining depths n covers order sum₀ decisions₀ left₀ sum decisions left = left
 
 covers-of-requires : tie.Need-covers-of-requires Inv-loop μ-loop
 covers-of-requires c κs = search needs

@@ -5,10 +5,10 @@ use Rattle.tries.proofs.answers.first_wrong.Statement.{statement}
 use Rattle.tries.proofs.answers.first_wrong.Tie as tie
 
 abbrev Inv-loop : tie.InvT-loop
-Inv-loop covers order decisions marks n i₀ i = Unit {0}
+Inv-loop combining covers order decisions marks n i₀ i = Unit {0}
 
 abbrev μ-loop : tie.MeasureT-loop
-μ-loop covers order decisions marks n i₀ i = n - i
+μ-loop combining covers order decisions marks n i₀ i = n - i
 
 loop-holds : tie.Need-loop-holds Inv-loop μ-loop
 loop-holds c = search needs

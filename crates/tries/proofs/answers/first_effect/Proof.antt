@@ -1,8 +1,8 @@
--- `answers::answer` is safe and ends: the measure is `n - k`. Assumes nothing.
+-- `answers::first_effect` is safe and ends: the measure is `n - k`. Assumes nothing.
 use Prim.Native.Nat.{_-_}
 use borrow.Author.Needs.{needs}
-use Rattle.tries.proofs.answers.answer.Statement.{statement}
-use Rattle.tries.proofs.answers.answer.Tie as tie
+use Rattle.tries.proofs.answers.first_effect.Statement.{statement}
+use Rattle.tries.proofs.answers.first_effect.Tie as tie
 
 abbrev Inv-loop : tie.InvT-loop
 Inv-loop covers order decisions marks n i k₀ k = Unit {0}
@@ -52,8 +52,8 @@ loop-again c = search needs
 returns-2 : tie.Need-returns-2 Inv-loop μ-loop
 returns-2 c = search needs
 
-pub answer-spec : {M : Type 1} → statement M
-answer-spec =
+pub first-effect-spec : {M : Type 1} → statement M
+first-effect-spec =
     tie.close
     (tie.spec
     Inv-loop
