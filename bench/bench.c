@@ -1,6 +1,7 @@
 /* Times each C function beside the same work in plain C (baseline.c), in one binary and one run: the ratio of the two
  * times, and how the library's time grows when the number of elements doubles; then what stopping early saves where one
- * element is decided. Times alone say little, ratios more. */
+ * element is decided. Times alone say little, ratios more. Different dossiers are taken in turn, with as many elements in
+ * all for every size: a processor learns the way through a few that it sees again and again. */
 #include "baseline.h"
 
 long write(int, const void *, size_t);
@@ -77,11 +78,13 @@ static uint32_t draw(uint32_t below)
     return (uint32_t)((uint64_t)(seed >> 8) * below >> 24);
 }
 
+/* the same in all dossiers, so that one list can stand for all */
+static uint32_t key_of(size_t i) { return (uint32_t)i * 2654435761u; }
+
 /* 0 a chain that starts again at depth 1 once it is 63 deep, 1 a star, 2 any depths; one element in so many is denied */
 static void make(uint8_t *d, size_t n, int shape, uint32_t denied)
 {
     unsigned depth = 0;
-    seed = (uint32_t)n * 3u + (uint32_t)shape;
     for (size_t i = 0; i < n; i++) {
         if (i > 0)
             depth = shape == 0 ? depth % 63 + 1 : shape == 1 ? 1 : 1 + draw(depth < 63 ? depth + 1 : 63);
@@ -89,44 +92,61 @@ static void make(uint8_t *d, size_t n, int shape, uint32_t denied)
         d[i * 8 + 1] = draw(denied) != 0;
         d[i * 8 + 2] = 0;
         d[i * 8 + 3] = 0;
-        uint32_t key = draw(1u << 24);
+        uint32_t key = key_of(i);
         memcpy(d + i * 8 + 4, &key, 4);
     }
 }
 
 /* ---- what is timed: one call of each kind, by the library or by the baseline */
 
-static uint8_t dossier[MOST * 8], marked[MOST * 8], opened[MOST * 8], rules[MOST * 16], far[MOST * 16], out[MOST * 16];
-static uint8_t denying[MOST * 8], permitting[MOST * 8]; /* with the least marks where deny, where permit overrides */
-static size_t size, rules_size;
+enum { ALL = 65536 }; /* elements of all dossiers of one size */
+
+/* a dossier, and the same with the least marks: by the walk, where deny and where permit overrides */
+typedef struct given {
+    uint8_t *dossier, *marked, *denying, *permitting;
+    uint8_t *opened; /* another, with little denied, and its marks */
+    uint8_t *rules;
+    size_t size, rules_size;
+} given;
+
+/* the dossiers of one size, and where their bytes are */
+typedef struct set {
+    given each[ALL / 32];
+    size_t count;
+    uint8_t dossiers[5][ALL * 8], rules[ALL * 16];
+} set;
+
+static set halves, wholes;
+static const given *g; /* what the next call takes */
+static uint8_t out[MOST * 16], far[MOST * 16];
 
 typedef uint64_t (*work)(void);
 
-static uint64_t lib_read(void) { return nv_read(marked, size); }
-static uint64_t c_read(void) { return base_read(marked, size); }
-static uint64_t lib_list(void) { return nv_list(marked, size, out, sizeof out); }
-static uint64_t c_list(void) { return base_list(marked, size, out, sizeof out); }
-static uint64_t lib_back(void) { return nv_read_back(dossier, size, rules, rules_size); }
-static uint64_t c_back(void) { return base_read_back(dossier, size, rules, rules_size); }
-static uint64_t lib_decide(void) { return nv_decide(marked, size, rules, rules_size, rules, 0, 0, size / 8 - 1); }
-static uint64_t c_decide(void) { return base_decide(marked, size, rules, rules_size, rules, 0, 0, size / 8 - 1); }
-static uint64_t lib_far(void) { return nv_decide(marked, size, far, sizeof far, far, 0, 0, size / 8 - 1); }
-static uint64_t c_far(void) { return base_decide(marked, size, far, sizeof far, far, 0, 0, size / 8 - 1); }
-static uint64_t c_far_all(void) { return base_decide_reading_all(marked, size, far, sizeof far, far, 0, 0, size / 8 - 1); }
-static uint64_t lib_fold(void) { return nv_fold(dossier, size); }
-static uint64_t c_fold(void) { return base_fold(dossier, size); }
-static uint64_t lib_judge(void) { return nv_judge(marked, size); }
-static uint64_t c_judge(void) { return base_judge(marked, size); }
-static uint64_t lib_fold_1(void) { return nv_fold_for(dossier, size, 1); }
-static uint64_t c_fold_1(void) { return base_fold_for(dossier, size, 1); }
-static uint64_t lib_fold_2(void) { return nv_fold_for(dossier, size, 2); }
-static uint64_t c_fold_2(void) { return base_fold_for(dossier, size, 2); }
-static uint64_t lib_judge_1(void) { return nv_judge_for(denying, size, 1); }
-static uint64_t c_judge_1(void) { return base_judge_for(denying, size, 1); }
-static uint64_t lib_judge_2(void) { return nv_judge_for(permitting, size, 2); }
-static uint64_t c_judge_2(void) { return base_judge_for(permitting, size, 2); }
-static uint64_t lib_view(void) { return nv_view(opened, size, out, sizeof out); }
-static uint64_t c_view(void) { return base_view(opened, size, out, sizeof out); }
+static uint64_t lib_read(void) { return nv_read(g->marked, g->size); }
+static uint64_t c_read(void) { return base_read(g->marked, g->size); }
+static uint64_t lib_list(void) { return nv_list(g->marked, g->size, out, sizeof out); }
+static uint64_t c_list(void) { return base_list(g->marked, g->size, out, sizeof out); }
+static uint64_t lib_back(void) { return nv_read_back(g->dossier, g->size, g->rules, g->rules_size); }
+static uint64_t c_back(void) { return base_read_back(g->dossier, g->size, g->rules, g->rules_size); }
+static uint64_t lib_decide(void) { return nv_decide(g->marked, g->size, g->rules, g->rules_size, g->rules, 0, 0, g->size / 8 - 1); }
+static uint64_t c_decide(void) { return base_decide(g->marked, g->size, g->rules, g->rules_size, g->rules, 0, 0, g->size / 8 - 1); }
+static uint64_t lib_far(void) { return nv_decide(g->marked, g->size, far, sizeof far, far, 0, 0, g->size / 8 - 1); }
+static uint64_t c_far(void) { return base_decide(g->marked, g->size, far, sizeof far, far, 0, 0, g->size / 8 - 1); }
+static uint64_t c_far_all(void) { return base_decide_reading_all(g->marked, g->size, far, sizeof far, far, 0, 0, g->size / 8 - 1); }
+static uint64_t lib_fold(void) { return nv_fold(g->dossier, g->size); }
+static uint64_t c_fold(void) { return base_fold(g->dossier, g->size); }
+static uint64_t lib_judge(void) { return nv_judge(g->marked, g->size); }
+static uint64_t c_judge(void) { return base_judge(g->marked, g->size); }
+static uint64_t lib_fold_1(void) { return nv_fold_for(g->dossier, g->size, 1); }
+static uint64_t c_fold_1(void) { return base_fold_for(g->dossier, g->size, 1); }
+static uint64_t lib_fold_2(void) { return nv_fold_for(g->dossier, g->size, 2); }
+static uint64_t c_fold_2(void) { return base_fold_for(g->dossier, g->size, 2); }
+static uint64_t lib_judge_1(void) { return nv_judge_for(g->denying, g->size, 1); }
+static uint64_t c_judge_1(void) { return base_judge_for(g->denying, g->size, 1); }
+static uint64_t lib_judge_2(void) { return nv_judge_for(g->permitting, g->size, 2); }
+static uint64_t c_judge_2(void) { return base_judge_for(g->permitting, g->size, 2); }
+static uint64_t lib_view(void) { return nv_view(g->opened, g->size, out, sizeof out); }
+static uint64_t c_view(void) { return base_view(g->opened, g->size, out, sizeof out); }
 
 /* all records through one walk */
 static uint64_t steps(void (*fresh)(nv_walk *), uint64_t (*step)(nv_walk *, const uint8_t *, size_t))
@@ -134,8 +154,8 @@ static uint64_t steps(void (*fresh)(nv_walk *), uint64_t (*step)(nv_walk *, cons
     nv_walk walk;
     uint64_t sum = 0;
     fresh(&walk);
-    for (size_t i = 0; i < size; i += 8)
-        sum += step(&walk, marked + i, 8);
+    for (size_t i = 0; i < g->size; i += 8)
+        sum += step(&walk, g->marked + i, 8);
     return sum;
 }
 
@@ -165,34 +185,41 @@ static const struct {
 
 static uint64_t kept;
 
-/* The least of several times of one call, in nanoseconds. */
-static double once(work f, unsigned turns)
+/* The time of one call, in nanoseconds, where all dossiers are taken so often. */
+static double once(work f, const set *s, unsigned turns)
 {
     double from = now();
     for (unsigned i = 0; i < turns; i++)
-        kept += f();
-    return (now() - from) / turns;
+        for (g = s->each; g < s->each + s->count; g++)
+            kept += f();
+    return (now() - from) / (double)(turns * s->count);
 }
 
-static unsigned turns_for(work f)
+static unsigned turns_for(work f, const set *s)
 {
     unsigned turns = 1;
-    while (once(f, turns) * turns < 2e6)
+    while (once(f, s, turns) * (double)(turns * s->count) < 2e6)
         turns *= 2;
     return turns;
 }
 
-/* Lowers the best time of each, taken in turn so that both see the same machine. */
-static void measure(work lib, work c, double *lib_best, double *c_best)
+/* two times, taken one right after the other */
+typedef struct pair {
+    double a, b;
+} pair;
+
+enum { ROUNDS = 25 };
+
+/* The pair with the middle ratio: a machine that changes its speed now and then changes both times of most pairs alike. */
+static pair middle(pair *pairs)
 {
-    unsigned lib_turns = turns_for(lib), c_turns = turns_for(c);
-    for (int i = 0; i < 8; i++) {
-        double a = once(lib, lib_turns), b = once(c, c_turns);
-        if (a < *lib_best)
-            *lib_best = a;
-        if (b < *c_best)
-            *c_best = b;
-    }
+    for (size_t i = 1; i < ROUNDS; i++)
+        for (size_t k = i; k > 0 && pairs[k].a * pairs[k - 1].b < pairs[k - 1].a * pairs[k].b; k--) {
+            pair p = pairs[k];
+            pairs[k] = pairs[k - 1];
+            pairs[k - 1] = p;
+        }
+    return pairs[ROUNDS / 2];
 }
 
 /* As many rules as a list holds, all cascading, on the sixteen elements behind the root. None of the shapes has its last
@@ -201,38 +228,48 @@ static void aim_far(void)
 {
     for (size_t i = 0; i < sizeof far; i += 8) {
         size_t target = 1 + i / 8 % 16;
+        uint32_t key = key_of(target);
         far[i] = (uint8_t)target;
         far[i + 1] = 0;
         far[i + 2] = i / 8 % 2;
         far[i + 3] = 1;
-        memcpy(far + i + 4, dossier + target * 8 + 4, 4);
+        memcpy(far + i + 4, &key, 4);
     }
 }
 
-static void prepare(size_t n, int shape)
+static void prepare(set *s, size_t n, int shape)
 {
-    size = n * 8;
-    make(dossier, n, shape, 2);
-    memcpy(marked, dossier, size);
-    base_fold(marked, size);
-    memcpy(denying, dossier, size);
-    base_fold_for(denying, size, 1);
-    memcpy(permitting, dossier, size);
-    base_fold_for(permitting, size, 2);
-    rules_size = 8 * base_list(marked, size, rules, sizeof rules);
-    aim_far();
-    make(opened, n, shape, 16);
-    opened[1] = 1;
-    base_fold(opened, size);
+    seed = (uint32_t)n * 3u + (uint32_t)shape;
+    s->count = ALL / n;
+    for (size_t i = 0; i < s->count; i++) {
+        given *to = &s->each[i];
+        size_t size = n * 8, at = i * size;
+        *to = (given){s->dossiers[0] + at, s->dossiers[1] + at, s->dossiers[2] + at, s->dossiers[3] + at, s->dossiers[4] + at,
+                      s->rules + at * 2, size, 0};
+        make(to->dossier, n, shape, 2);
+        memcpy(to->marked, to->dossier, size);
+        base_fold(to->marked, size);
+        memcpy(to->denying, to->dossier, size);
+        base_fold_for(to->denying, size, 1);
+        memcpy(to->permitting, to->dossier, size);
+        base_fold_for(to->permitting, size, 2);
+        to->rules_size = 8 * base_list(to->marked, size, to->rules, size * 2);
+        make(to->opened, n, shape, 16);
+        to->opened[1] = 1;
+        base_fold(to->opened, size);
+    }
 }
 
 static const size_t sizes[] = {64, 512, 4096};
 static const char *const shapes[] = {"chain", "star", "random"};
 
-static void differ(uint64_t a, uint64_t b)
+static void differ(work a, work b)
 {
-    if (a != b)
-        text("  THE REPLIES DIFFER", 0);
+    for (g = wholes.each; g < wholes.each + wholes.count; g++)
+        if (a() != b()) {
+            text("  THE REPLIES DIFFER", 0);
+            return;
+        }
 }
 
 /* Each function beside the baseline's, with what it takes for half the elements. */
@@ -245,21 +282,25 @@ static void beside_c(void)
             for (int s = 0; s < 3; s++) {
                 if (sizes[s] < kinds[k].from)
                     continue;
-                double lib = 1e18, c = 1e18, half = 1e18, half_c = 1e18;
-                for (int i = 0; i < 3; i++) {
-                    prepare(sizes[s] / 2, shape);
-                    measure(kinds[k].lib, kinds[k].c, &half, &half_c);
-                    prepare(sizes[s], shape);
-                    measure(kinds[k].lib, kinds[k].c, &lib, &c);
+                pair beside[ROUNDS], doubled[ROUNDS];
+                prepare(&halves, sizes[s] / 2, shape);
+                prepare(&wholes, sizes[s], shape);
+                unsigned half_turns = turns_for(kinds[k].lib, &halves);
+                unsigned lib_turns = turns_for(kinds[k].lib, &wholes), c_turns = turns_for(kinds[k].c, &wholes);
+                for (size_t i = 0; i < ROUNDS; i++) {
+                    double half = once(kinds[k].lib, &halves, half_turns), lib = once(kinds[k].lib, &wholes, lib_turns);
+                    beside[i] = (pair){lib, once(kinds[k].c, &wholes, c_turns)};
+                    doubled[i] = (pair){lib, half};
                 }
+                pair m = middle(beside), grown = middle(doubled);
                 text(kinds[k].name, 12);
                 text(shapes[shape], 8);
                 number(sizes[s], 8);
-                number((uint64_t)lib, 13);
-                number((uint64_t)c, 11);
-                fraction(lib / c, 7);
-                fraction(lib / half, 8);
-                differ(kinds[k].lib(), kinds[k].c());
+                number((uint64_t)m.a, 13);
+                number((uint64_t)m.b, 11);
+                fraction(m.a / m.b, 7);
+                fraction(grown.a / grown.b, 8);
+                differ(kinds[k].lib, kinds[k].c);
                 end();
             }
 }
@@ -270,22 +311,28 @@ static void before_and_after(void)
     text("decide far  shape   elements    before ns   after ns  before over after", 0);
     end();
     for (int shape = 0; shape < 3; shape++) {
-        double before = 1e18, after = 1e18;
-        prepare(MOST, shape);
-        measure(c_far_all, lib_far, &before, &after);
+        pair pairs[ROUNDS];
+        prepare(&wholes, MOST, shape);
+        unsigned before_turns = turns_for(c_far_all, &wholes), after_turns = turns_for(lib_far, &wholes);
+        for (size_t i = 0; i < ROUNDS; i++) {
+            double before = once(c_far_all, &wholes, before_turns);
+            pairs[i] = (pair){before, once(lib_far, &wholes, after_turns)};
+        }
+        pair m = middle(pairs);
         text("", 12);
         text(shapes[shape], 8);
         number(MOST, 8);
-        number((uint64_t)before, 13);
-        number((uint64_t)after, 11);
-        fraction(before / after, 9);
-        differ(c_far_all(), lib_far());
+        number((uint64_t)m.a, 13);
+        number((uint64_t)m.b, 11);
+        fraction(m.a / m.b, 9);
+        differ(c_far_all, lib_far);
         end();
     }
 }
 
 int main(void)
 {
+    aim_far();
     beside_c();
     end();
     before_and_after();
