@@ -433,14 +433,8 @@ static uint64_t asked_for(const uint8_t *d, size_t len, size_t combining)
 /* Of two values the one that stands: deny is the smallest and none the largest. */
 static unsigned over(unsigned a, unsigned b) { return a <= b ? a : b; }
 
-uint64_t base_fold_for(uint8_t *d, size_t len, size_t combining)
+static uint64_t fold_over(uint8_t *d, size_t n, unsigned turn)
 {
-    if (combining == 0)
-        return base_fold(d, len);
-    uint64_t n = asked_for(d, len, combining);
-    if (refused(n))
-        return n;
-    unsigned turn = combining == 2;
     uint8_t plan[4096], handed[64];
     size_t next;
     sums s = branch_over(d, n, plan, turn, 0, &next);
@@ -454,14 +448,14 @@ uint64_t base_fold_for(uint8_t *d, size_t len, size_t combining)
     return s.none;
 }
 
-uint64_t base_judge_for(const uint8_t *d, size_t len, size_t combining)
+uint64_t base_fold_for(uint8_t *d, size_t len, size_t combining)
 {
-    if (combining == 0)
-        return base_judge(d, len);
     uint64_t n = asked_for(d, len, combining);
-    if (refused(n))
-        return n;
-    unsigned turn = combining == 2;
+    return refused(n) ? n : combining == 0 ? base_fold(d, len) : fold_over(d, n, combining == 2);
+}
+
+static uint64_t judge_over(const uint8_t *d, size_t n, unsigned turn)
+{
     size_t given = count(d, n);
     uint8_t plan[4096], handed[64];
     for (size_t p = 0; p < n; p++) {
@@ -475,6 +469,12 @@ uint64_t base_judge_for(const uint8_t *d, size_t len, size_t combining)
     }
     size_t next;
     return right(given, branch_over(d, n, plan, turn, 0, &next).none);
+}
+
+uint64_t base_judge_for(const uint8_t *d, size_t len, size_t combining)
+{
+    uint64_t n = asked_for(d, len, combining);
+    return refused(n) ? n : combining == 0 ? base_judge(d, len) : judge_over(d, n, combining == 2);
 }
 
 /* ---- the view */

@@ -14,7 +14,7 @@ use Rattle.dossier.specs.declared.Decision.the-variants.{Deny, Permit, None}
 use Rattle.dossier.proofs.Forest.{Forest, nil, node, sizeF}
 use Rattle.dossier.proofs.Runs.{run-length, run-first, run-none, run-drop, run-map}
 use Rattle.dossier.proofs.Under.{under, size-le, under-nil, under-stop, under-node}
-use Rattle.least.specs.declared.Sums.{Sums}
+use Rattle.least.specs.declared.choosing.Sums.{Sums}
 use Rattle.least.specs.Inner.{gatewayOf, seenBy, elementFor, wrongCost, sums, Small, sumAt, sumsOf, plusOf, bestBy, below, branchOf}
 use Rattle.least.proofs.Minimal.{sums-most}
 use Rattle.least.proofs.Gateways.{seenAll}

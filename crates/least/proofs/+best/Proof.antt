@@ -4,9 +4,9 @@ use Prim.Native.Nat.{_+_, _-_}
 use native.Mathlib.Omega.{arith}
 use mathlib.Core.Logic.{⊎-elim}
 use Rattle.dossier.specs.Bytes.{records}
-use Rattle.least.specs.declared.Sums.{Sums}
+use Rattle.least.specs.declared.choosing.Sums.{Sums}
 use Rattle.least.specs.declared.Branch.{Branch}
-use Rattle.least.specs.declared.Chosen.{Chosen}
+use Rattle.least.specs.declared.choosing.Chosen.{Chosen}
 use Rattle.least.specs.Inner.{elementFor, plusOf, chosenOf, Planned}
 use Rattle.least.proofs.Branches.{Summed, start, turn, over-end, over-out, small}
 use Rattle.least.proofs.Plans.{planned-none, planned-more, planned-first}
@@ -16,8 +16,8 @@ use borrow.Fn.PlainCycle.{Measures, is, falls, and}
 use Rattle.least.proofs.best.Reads as best
 use Rattle.least.proofs.best.Kinds as best-kinds
 use Rattle.least.proofs.+best.Lts-best as best-lts
-use Rattle.least.proofs.choose.Reads as choose-reads
-use Rattle.least.proofs.plus.Reads as plus-reads
+use Rattle.least.proofs.choosing.choose.Reads as choose-reads
+use Rattle.least.proofs.choosing.plus.Reads as plus-reads
 use Rattle.least.proofs.+best.{statement}
 use Rattle.least.proofs.+best.Tie.{close}
 
