@@ -1,35 +1,38 @@
 -- Replies as one number of 64 bits, for callers in other languages. Assumes nothing: these are definitions.
 use mathlib.Core.Path.{_≡_}
 use Prim.Native.Nat.{ℕ, _+_, _*_, _%_}
+use mathlib.Core.Bool.{cond}
 use mathlib.Core.List.{List, [], _∷_}
-use Rattle.dossier.specs.Elements.{decisionNumber}
+use lib.ListN.{length, getD}
+use lib.Dec.{eqb}
+use Rattle.dossier.specs.Numbers.{refusalNumbers, replyNumbers, answerNumbers}
 use Rattle.dossier.specs.declared.Refusal.{Refusal}
 use Rattle.dossier.specs.declared.Reply.{Reply}
-use Rattle.dossier.specs.declared.Reply.the-variants.{Count, Refused}
 use Rattle.dossier.specs.declared.Answer.{Answer}
-use Rattle.dossier.specs.declared.Answer.the-variants as answer
+use Rattle.least.specs.Judging.{verdictNumbers}
 use Rattle.least.specs.declared.Verdict.{Verdict}
-use Rattle.least.specs.declared.Verdict.the-variants as verdict
 use Rattle.least.specs.declared.Judgement.{Judgement}
 use Rattle.least.specs.declared.Judgement.the-variants as judgement
 
--- 2^63 + number * 2^40 + list * 2^32 + position; a position is below 2^32
+-- one number as it is, and the three of a refusal: 2^63 + number * 2^40 + list * 2^32 + position; a position is below 2^32
+abbrev pub packedNumbers : List ℕ → ℕ
+packedNumbers ns =
+    cond (eqb (length ns) 1) (getD ns 0 0)
+    (9223372036854775808 + getD ns 0 0 * 1099511627776 + getD ns 1 0 * 4294967296 + getD ns 2 0 % 4294967296)
+
 abbrev pub packedRefusal : Refusal → ℕ
-packedRefusal f = 9223372036854775808 + f .number * 1099511627776 + f .list * 4294967296 + f .position % 4294967296
+packedRefusal f = packedNumbers (refusalNumbers f)
 
 abbrev pub packedReply : Reply → ℕ
-packedReply (Count n) = n
-packedReply (Refused f) = packedRefusal f
+packedReply r = packedNumbers (replyNumbers r)
 
 abbrev pub packedAnswer : Answer → ℕ
-packedAnswer (answer.Given v) = decisionNumber v
-packedAnswer (answer.Refused f) = packedRefusal f
+packedAnswer a = packedNumbers (answerNumbers a)
 
--- number * 2^16 + verdict * 2^32 + answer * 2^34; a number is below 2^16
+-- number * 2^16 + verdict * 2^32 + answer * 2^34, where 0 stands for what a verdict hasn't; a number is below 2^16
 abbrev pub packedVerdict : Verdict → ℕ
-packedVerdict verdict.Least = 0
-packedVerdict (verdict.Longer n) = n % 65536 * 65536 + 4294967296
-packedVerdict (verdict.Wrong i a) = i % 65536 * 65536 + 8589934592 + decisionNumber a * 17179869184
+packedVerdict v =
+    getD (verdictNumbers v) 1 0 % 65536 * 65536 + getD (verdictNumbers v) 0 0 * 4294967296 + getD (verdictNumbers v) 2 0 * 17179869184
 
 abbrev pub packedJudgement : Judgement → ℕ
 packedJudgement (judgement.Reported r) = r .count % 65536 + packedVerdict (r .verdict)

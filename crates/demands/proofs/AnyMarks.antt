@@ -7,7 +7,7 @@ use mathlib.Core.List.{List, [], append-nil}
 use lib.ListN.{length}
 use borrow.Author.Tests.{le-ltb}
 use Rattle.dossier.specs.Limits.{width}
-use Rattle.dossier.specs.Elements.{Mark, marksOf}
+use Rattle.dossier.specs.Elements.{Mark, m-, m+, m±, marksOf}
 use Rattle.dossier.specs.Bytes.{records, keyAt, elementsOf, withMarks}
 use Rattle.dossier.specs.Replies.{refusal, roomFor, fronted}
 use Rattle.dossier.specs.Reading.{Sound}
@@ -22,8 +22,10 @@ use Rattle.rules.specs.Deciding.{bothRules, decideOf}
 use Rattle.rules.proofs.RoundTrip.{rules-back}
 use Rattle.rules.proofs.ListSounds.{count-sound}
 use Rattle.rules.proofs.Answers.{given-answer}
+use Rattle.listing.specs.Listing.{numberOf}
 use Rattle.listing.specs.Area.{listedOf, listReply, listArea}
 use Rattle.listing.specs.Back.{Gives, Told, marked, Back}
+use Rattle.listing.proofs.Counts.{length-numbers}
 use Rattle.listing.proofs.Costs.{elements-length}
 use Rattle.listing.proofs.ListedSound.{listed-sound}
 use Rattle.listing.proofs.Replies.{back-told}
@@ -51,6 +53,11 @@ module _ (d : List ℕ) (m : Marking d) where
       let read = sound-counted new (marked-sound d (m .marks) (m .each) s) in
       let room = le-ltb (length area) (length (rulesFrom d m) * width) l in
       (rw (read, new-lists, room), rw (read, new-lists, room))
+
+  -- ---- how many they are
+
+  pub counted : length (rulesFrom d m) ≡ numberOf m- (m .marks) + numberOf m+ (m .marks) + 2 * numberOf m± (m .marks)
+  counted = length-numbers (elementsOf d) (m .marks) (m .each ∙ sym (elements-length d))
 
   -- ---- they are a sound list over the dossier
 

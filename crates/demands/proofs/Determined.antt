@@ -27,7 +27,7 @@ use Rattle.marks.specs.Stepping.{refusedStep, takeOf, Leaves, Steps}
 use Rattle.marks.specs.declared.Walk.{Walk}
 use Rattle.marks.specs.declared.Stepped.{Stepped}
 use Rattle.marks.proofs.Forests.{walk-length}
-use Rattle.marks.proofs.Determined.{leaves?, steps-one}
+use Rattle.marks.proofs.Determined.{steps-by, leaves?, steps-one}
 use Rattle.listing.specs.Listing.{listOf}
 use Rattle.listing.specs.Back.{Gives, marked, none, Back}
 use Rattle.listing.proofs.Costs.{elements-length, marks-length}
@@ -41,6 +41,7 @@ use Rattle.least.specs.declared.Judgement.{Judgement}
 use Rattle.least.specs.declared.Judgement.the-variants as judgement
 use Rattle.least.proofs.Folds.{fold}
 use Rattle.least.proofs.Verdicts.{verdictOf}
+use Rattle.least.proofs.Numbers.{judges-by}
 use Rattle.least.proofs.Matching.{matches-back, fold-as}
 use Rattle.least.proofs.Gateways.{first-matches}
 use Rattle.least.proofs.Branches.{elementsFor}
@@ -78,8 +79,8 @@ step-only w r = go (leaves? w)
     by s h = record { it = s; allowed = h; only = λ q g. steps-one w r q s g h }
 
     go : Dec (Leaves w) → ExactlyOne (Steps w r)
-    go (yes left) = by (takeOf w r) (record { takes = λ l. refl; refuses = λ n. absurd (n left) })
-    go (no never) = by (refusedStep w 17 0) (record { takes = λ l. absurd (never l); refuses = λ n. refl })
+    go (yes left) = by (takeOf w r) (steps-by w r (takeOf w r) (λ l. refl) (λ n. absurd (n left)))
+    go (no never) = by (refusedStep w 17 0) (steps-by w r (refusedStep w 17 0) (λ l. absurd (never l)) (λ n. refl))
 
 in-place-only : (w : Walk) (r : List ℕ) → OneReply (λ (reply : Answer) (new : Walk). Steps w r (record { walk = new; answer = reply }))
 in-place-only w r =
@@ -164,7 +165,7 @@ module _ (A : Answers) (x : Reply) (d : List ℕ) (sound : (n : ℕ) → x ≡ C
       go (Count n) e =
           let es = elementsOf d in
           let v = verdictOf A es marks (folds (sound n e) .least) (marksOf es) (marks-length d) long in
-          by (judgement.Reported (record { count = count es (marksOf es); verdict = v .0 })) (rw e (record { counted = refl; holds = v .1 }))
+          by (judgement.Reported (record { count = count es (marksOf es); verdict = v .0 })) (rw e (judges-by A es (marksOf es) _ refl (v .1)))
 
 module _ (c : ℕ) (d : List ℕ) where
   -- the folder's marks under this combining

@@ -2,13 +2,16 @@
 use Prim.Native.Nat.{ℕ, _≤_}
 use mathlib.Core.List.{[]}
 use lib.ListN.{length}
+use Rattle.dossier.specs.Bytes.{elementsOf}
 use Rattle.dossier.proofs.Runs.{run-length}
 use Rattle.dossier.proofs.Sounds.{sound-counted}
 use Rattle.rules.specs.Combining.{decision}
 use Rattle.marks.specs.Marks.{first}
 use Rattle.marks.proofs.Forests.{walk-length}
 use Rattle.listing.specs.Listing.{listOf}
-use Rattle.least.proofs.OwnMarks.{asked-few, own-list, own-verdict, own-list-for, own-verdict-for}
+use Rattle.least.proofs.Folds.{minuses-right, first-plain}
+use Rattle.least.proofs.Gateways.{minus-listed}
+use Rattle.least.proofs.OwnMarks.{asked-few, own-list, own-verdict, own-ignore, own-list-for, own-verdict-for, own-ignore-for}
 use Rattle.demands.specs.Demand3.{walking, combining, Demand3}
 use Rattle.demands.proofs.Verdicts.{demand-by}
 
@@ -16,14 +19,18 @@ pub demand-3 : Demand3 walking
 demand-3 = demand-by walking (record {
   all = λ es ms q. walk-length first [] es ms q;
   accepted = sound-counted;
+  minuses = λ d s. minuses-right first first-plain (elementsOf d);
   lists = own-list;
   judged = own-verdict;
+  ignores = own-ignore;
 })
 
 pub demand-3-for : (c : ℕ) → c ≤ 2 → Demand3 (combining c)
 demand-3-for c few = demand-by (combining c) (record {
   all = λ es ms q. run-length (λ i. decision c es i (listOf es ms)) 0 (length es);
   accepted = asked-few c few;
+  minuses = λ d s. minus-listed c (elementsOf d) (s .order);
   lists = own-list-for c few;
   judged = own-verdict-for c few;
+  ignores = own-ignore-for c few;
 })

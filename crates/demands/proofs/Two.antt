@@ -2,7 +2,7 @@
 use Rattle.marks.proofs.Keeping.{gateway-answers}
 use Rattle.demands.specs.Demand2.{Demand2}
 use Rattle.demands.proofs.Decisions.{decided, deciding-rule, deciding-none}
-use Rattle.demands.proofs.AnyMarks.{listed, decided-as-marked, read-back, no-marks-refused}
+use Rattle.demands.proofs.AnyMarks.{listed, counted, decided-as-marked, read-back, no-marks-refused}
 
 pub demand-2 : Demand2
 demand-2 = record {
@@ -10,6 +10,7 @@ demand-2 = record {
   deciding-rule = deciding-rule;
   deciding-none = deciding-none;
   listed = listed;
+  counted = counted;
   decided-as-marked = decided-as-marked;
   stepped-as-marked = gateway-answers;
   read-back = read-back;

@@ -5,10 +5,10 @@ use Prim.Native.Nat.{ℕ, _*_, _≤_, _<_}
 use native.Mathlib.Nat.{zero-add}
 use native.Mathlib.Omega.{arith}
 use mathlib.Core.List.{List, map}
-use lib.ListN.{length, getD}
+use lib.ListN.{length, getD, replicate}
 use borrow.Author.Tests.{le-ltb}
 use Rattle.dossier.specs.Limits.{width}
-use Rattle.dossier.specs.Elements.{Mark, Element, is}
+use Rattle.dossier.specs.Elements.{Mark, m-, Element, is}
 use Rattle.dossier.specs.Bytes.{records, elementAt, elementsOf, withMarks}
 use Rattle.dossier.specs.Replies.{roomFor}
 use Rattle.dossier.specs.Reading.{Sound}
@@ -40,10 +40,14 @@ pub record Known (w : Way) : Type 0 where
   pub all : (es : List Element) (ms : List Mark) → length ms ≡ length es → length (w .answers es ms) ≡ length es
   -- of a sound dossier nothing is refused
   pub accepted : (d : List ℕ) → Sound d → w .asked d ≡ Count (records d)
-  -- the folder's own marks
+  -- `-` everywhere is right
+  pub minuses : (d : List ℕ) → Sound d → list.Right (w .answers) (elementsOf d) (replicate (length (elementsOf d)) m-)
+  -- the folder's own marks, and those that it finds
   pub lists : (d : List ℕ) (reply : Reply) (new : List ℕ) → Sound d → FoldedBy w d reply new → Listed d reply new
   pub judged : (d : List ℕ) (n : ℕ) (new : List ℕ) (j : Judgement) → Sound d → FoldedBy w d (Count n) new → JudgedBy w new j
       → j ≡ Reported (record { count = n; verdict = verdict.Least })
+  pub ignores : (d : List ℕ) (found : List Mark) (reply other : Reply) (new left : List ℕ) → Sound d → length found ≡ records d
+      → FoldedBy w d reply new → FoldedBy w (withMarks d 0 found) other left → (reply ≡ other) × (new ≡ left)
 
 -- ---- right and least, by position
 
@@ -74,6 +78,10 @@ module _ (w : Way) (known : Known w) where
 
     least-all : (ms : List Mark) → Least w d ms → list.Least (w .answers) (elementsOf d) ms
     least-all ms l = record { right = right-all ms (l .right); least = λ other r. l .fewest other (right-at other r) }
+
+  -- `-` everywhere
+  minus-right : (d : List ℕ) → Sound d → Right w d (replicate (records d) m-)
+  minus-right d s = right-at d (replicate (records d) m-) (rw (elements-length d) at (known .minuses d s))
 
   -- ---- the judge
 
@@ -126,8 +134,10 @@ module _ (w : Way) (known : Known w) where
     longer = λ d r n. exactly d r (verdict.Longer n);
     wrong = λ d r i a. exactly d r (verdict.Wrong i a);
     reported = reported;
+    minus-right = minus-right;
     own-least = known .judged;
     own-count = own-count;
     own-bounds = own-bounds;
     own-first = own-first;
+    own-ignores = known .ignores;
   }

@@ -2,11 +2,11 @@
 -- Assumes nothing: these are definitions.
 use mathlib.Core.Path.{_≡_}
 use mathlib.Core.Logic.{_↔_, _⊎_}
-use Prim.Native.Nat.{ℕ, _*_, _≤_, _<_}
+use Prim.Native.Nat.{ℕ, _+_, _*_, _≤_, _<_}
 use mathlib.Core.List.{List, [], map}
 use lib.ListN.{length, getD}
 use Rattle.dossier.specs.Limits.{width}
-use Rattle.dossier.specs.Elements.{Effect, Mark, marksOf, is}
+use Rattle.dossier.specs.Elements.{Effect, Mark, m-, m+, m±, marksOf, is}
 use Rattle.dossier.specs.Bytes.{records, recordsOf, elementsOf, withMarks}
 use Rattle.dossier.specs.Replies.{refusal, fronted}
 use Rattle.dossier.specs.Reading.{Sound}
@@ -23,7 +23,7 @@ use Rattle.marks.specs.Marks.{first}
 use Rattle.marks.specs.Walking.{walked}
 use Rattle.marks.specs.Stepping.{freshOf, StepsAll, answersIn}
 use Rattle.marks.specs.declared.Stepped.{Stepped}
-use Rattle.listing.specs.Listing.{listOf}
+use Rattle.listing.specs.Listing.{listOf, numberOf}
 use Rattle.listing.specs.Area.{listReply, listArea}
 use Rattle.listing.specs.Back.{Gives, Back}
 use Rattle.demands.specs.Published.{Published, Deciding}
@@ -54,6 +54,9 @@ pub record Demand2 : Type 0 where
   pub listed : (d : List ℕ) (m : Marking d) (area : List ℕ) → Sound d → length (rulesFrom d m) * width ≤ length area
       → (listReply (withMarks d 0 (m .marks)) area ≡ Count (length (rulesFrom d m)))
       × (listArea (withMarks d 0 (m .marks)) area ≡ fronted area (listBytes (rulesFrom d m)))
+  -- they are as many as the number of `-`, plus the number of `+`, plus twice the number of `±`
+  pub counted : (d : List ℕ) (m : Marking d)
+      → length (rulesFrom d m) ≡ numberOf m- (m .marks) + numberOf m+ (m .marks) + 2 * numberOf m± (m .marks)
   -- they give, first applicable, each element the decision that the marks give it, or none where they give none
   pub decided-as-marked : (d : List ℕ) (m : Marking d) (i : ℕ) → Sound d → i < records d
       → decideOf d (listBytes (rulesFrom d m)) [] 0 i ≡ Given (markedAt d m i)

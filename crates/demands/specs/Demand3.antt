@@ -4,9 +4,9 @@ use mathlib.Core.Path.{_≡_}
 use mathlib.Core.Logic.{_↔_}
 use Prim.Native.Nat.{ℕ, _*_, _≤_, _<_}
 use mathlib.Core.List.{List}
-use lib.ListN.{length, getD}
+use lib.ListN.{length, getD, replicate}
 use Rattle.dossier.specs.Limits.{width}
-use Rattle.dossier.specs.Elements.{Mark, marksOf, is}
+use Rattle.dossier.specs.Elements.{Mark, m-, marksOf, is}
 use Rattle.dossier.specs.Bytes.{records, elementAt, elementsOf, withMarks}
 use Rattle.dossier.specs.Reading.{readOf, Sound}
 use Rattle.dossier.specs.declared.Decision.{Decision}
@@ -77,6 +77,8 @@ pub record Demand3 (w : Way) : Type 0 where
       → (r .verdict ≡ verdict.Wrong i a) ↔ Wrong (w .answers) (elementsOf d) (marksIn d) i a
   -- it always reports, with the number of rules that the marks list
   pub reported : (d : List ℕ) (j : Judgement) → Sound d → JudgedBy w d j → (r : Report) × (j ≡ Reported r) × (r .count ≡ ruleCount d (marksIn d))
+  -- right markings always exist: `-` everywhere
+  pub minus-right : (d : List ℕ) → Sound d → Right w d (replicate (records d) m-)
   -- the folder's own marks always get that verdict, with the count that the folder reports
   pub own-least : (d : List ℕ) (n : ℕ) (new : List ℕ) (j : Judgement) → Sound d → FoldedBy w d (Count n) new → JudgedBy w new j
       → j ≡ Reported (record { count = n; verdict = verdict.Least })
@@ -89,3 +91,6 @@ pub record Demand3 (w : Way) : Type 0 where
   -- it writes its marks and no other byte; of several least ones they come first
   pub own-first : (d : List ℕ) (reply : Reply) (new : List ℕ) → Sound d → FoldedBy w d reply new
       → (ms : List Mark) × (new ≡ withMarks d 0 ms) × Least w d ms × ((other : List Mark) → Least w d other → First ms other)
+  -- it ignores the marks it finds: of the same dossier with any marks in it, it replies the same and leaves the same
+  pub own-ignores : (d : List ℕ) (found : List Mark) (reply other : Reply) (new left : List ℕ) → Sound d → length found ≡ records d
+      → FoldedBy w d reply new → FoldedBy w (withMarks d 0 found) other left → (reply ≡ other) × (new ≡ left)

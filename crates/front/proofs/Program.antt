@@ -4,20 +4,18 @@ use Prim.Native.Nat.{ℕ, _<_}
 use native.Mathlib.Omega.{arith}
 use native.Mathlib.Decide.{decLe}
 use native.Mathlib.Nat.{lt-of-not-le}
-use mathlib.Core.List.{List, [], _∷_}
+use mathlib.Core.List.{List}
 use lib.ListN.{length}
-use Rattle.dossier.specs.Elements.{deny, permit}
 use Rattle.dossier.specs.Reading.{readOf}
 use Rattle.dossier.specs.declared.Reply.{Reply}
 use Rattle.dossier.specs.declared.Reply.the-variants.{Count, Refused}
 use Rattle.dossier.proofs.Sounds.{counted-sound}
-use Rattle.rules.specs.Rules.{self, all}
 use Rattle.marks.specs.Marks.{first}
 use Rattle.marks.specs.Walking.{walked}
 use Rattle.least.specs.Folding.{FoldedAfter}
 use Rattle.least.proofs.Determined.{folded-unique}
 use Rattle.front.specs.Standing.{mostBytes, Kept}
-use Rattle.front.specs.Printing.{ascii, places, decimal, rulesText, refusalText, textAfter, Printed}
+use Rattle.front.specs.Printing.{textAfter, Printed}
 use Rattle.front.proofs.Standing.{kept-read}
 
 -- any two texts that may be printed of a dossier are equal
@@ -49,14 +47,3 @@ printed-whole w d t kept p = elim (decLe (length w) mostBytes) [
   | yes few ↦ subst (λ (x : List ℕ). Printed x t) (kept .same few) p
   | no other ↦ refused-whole w d t (lt-of-not-le other) (kept-read w d kept) p
 ]
-
--- ---- the two kinds of text
-
-example-rules : rulesText (record { target = 1; effect = permit; reach = self; key = 20 } ∷ record { target = 0; effect = deny; reach = all; key = 10 } ∷ [])
-    ≡ ascii "rules 2\n1 permit self\n0 deny all\n"
-unfolding rulesText decimal places
-example-rules = refl
-
-example-refusal : refusalText (record { number = 5; list = 0; position = 64 }) ≡ ascii "refused 5 0 64\n"
-unfolding refusalText decimal places
-example-refusal = refl

@@ -1,15 +1,16 @@
 -- The laws of what stands for the whole input: counting on from it is counting on from the whole, and the reader replies to it as to the whole.
-use mathlib.Core.Path.{_≡_, sym, ap, _∙_}
+use mathlib.Core.Path.{_≡_, refl, sym, ap, _∙_}
 use Prim.Native.Nat.{ℕ, _+_, _*_, _%_, _≤_, _<_}
-use mathlib.Core.List.{List}
+use mathlib.Core.List.{List, _++_, append-nil}
 use native.Mathlib.Omega.{arith}
 use native.Mathlib.Decide.{decLe}
 use native.Mathlib.Nat.{lt-of-not-le}
 use borrow.Author.Tests.{le-leb, lt-leb, lt-ltb, ne-eqb}
-use lib.ListN.{length}
+use lib.ListN.{length, take, replicate, length-append, length-replicate}
+use lib.Seq.{length-take-le}
 use Rattle.dossier.specs.Limits.{width}
 use Rattle.dossier.specs.Reading.{readOf}
-use Rattle.front.specs.Standing.{mostBytes, standsFor, Kept}
+use Rattle.front.specs.Standing.{mostBytes, standsFor, Kept, CountedOn, Gathered}
 
 pub stands-few : (n : ℕ) → n ≤ mostBytes → standsFor n ≡ n
 unfolding standsFor
@@ -50,3 +51,47 @@ kept-read w d kept = elim (decLe (length w) mostBytes) [
       let e = kept .stands ∙ stands-many (length w) (lt-of-not-le other) in
       many-read d w (omega (arith, e)) (lt-of-not-le other) (omega (arith, e)))
 ]
+
+-- ---- reading
+
+-- before anything more is read, and after some more
+pub counted-none : CountedOn mostBytes
+counted-none = record { more = 0; stands = sym (stands-few mostBytes (omega arith)) }
+
+pub counted-more : (total n r : ℕ) → CountedOn total → r ≡ standsFor (total + n) → CountedOn r
+counted-more total n r on e = record {
+  more = on .more + n;
+  stands = e ∙ ap (λ (x : ℕ). standsFor (x + n)) (on .stands) ∙ stands-on (mostBytes + on .more) n ∙ ap standsFor (omega arith);
+}
+
+module _ (area : List ℕ) (n : ℕ) where
+  -- an input that ends before the most bytes is kept as it is
+  pub gathered-all : n ≤ mostBytes → n ≤ length area → Gathered area n
+  gathered-all few within = record {
+    within = within;
+    whole = take n area;
+    kept = record {
+      stands = sym (stands-few (length (take n area)) (omega (arith, length-take-le n area within)));
+      same = λ _. refl;
+    };
+  }
+
+  -- of a longer one the most bytes are kept
+  pub gathered-front : mostBytes + 2 * width ≤ length area → CountedOn n → Gathered area n
+  gathered-front room on =
+      let within : n ≤ length area = omega (arith, stands-below n (mostBytes + on .more) (on .stands)) in
+      let front = length-take-le mostBytes area (omega arith) in
+      let long : length (take mostBytes area ++ replicate (on .more) 0) ≡ mostBytes + on .more =
+      length-append (take mostBytes area) (replicate (on .more) 0) ∙ omega (arith, front, length-replicate {A = ℕ} (on .more) 0) in
+      record {
+        within = within;
+        whole = take mostBytes area ++ replicate (on .more) 0;
+        kept = record {
+          stands = length-take-le n area within ∙ on .stands ∙ ap standsFor (sym long);
+          same = λ few.
+              let none : on .more ≡ 0 = omega (arith, long) in
+              let all : n ≡ mostBytes = on .stands ∙ ap (λ (k : ℕ). standsFor (mostBytes + k)) none ∙ stands-few mostBytes (omega arith) in
+              ap (λ (k : ℕ). take k area) all ∙ sym (append-nil (take mostBytes area))
+              ∙ ap (λ (k : ℕ). take mostBytes area ++ replicate k 0) (sym none);
+        };
+      }

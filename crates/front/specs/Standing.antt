@@ -3,7 +3,7 @@ use mathlib.Core.Path.{_≡_}
 use Prim.Native.Nat.{ℕ, _+_, _*_, _%_, _≤_}
 use mathlib.Core.Bool.{cond}
 use mathlib.Core.List.{List}
-use lib.ListN.{length}
+use lib.ListN.{length, take}
 use lib.Dec.{leb}
 use Rattle.dossier.specs.Limits.{width, mostElements}
 
@@ -19,3 +19,14 @@ standsFor n = cond (leb n mostBytes) n (mostBytes + width + n % width)
 pub record Kept (w d : List ℕ) : Type 0 where
   pub stands : length d ≡ standsFor (length w)
   pub same : length w ≤ mostBytes → d ≡ w
+
+-- what can be promised of reading, since no contract says what a read brings: this length stands for the most bytes and some more
+pub record CountedOn (n : ℕ) : Type 0 where
+  pub more : ℕ
+  pub stands : n ≡ standsFor (mostBytes + more)
+
+-- and the first n bytes of the area are what is kept of some input
+pub record Gathered (area : List ℕ) (n : ℕ) : Type 0 where
+  pub within : n ≤ length area
+  pub whole : List ℕ
+  pub kept : Kept whole (take n area)

@@ -13,7 +13,7 @@ ghost use Rattle.dossier.specs.Elements.{effectOf};
 ghost use Rattle.dossier.specs.Bytes.{records};
 ghost use Rattle.rules.specs.Rules.{reachOf, ruleAt, rulesOf};
 ghost use Rattle.listing.specs.Area.{listedOf};
-ghost use Rattle.front.specs.Standing.{mostBytes, standsFor};
+ghost use Rattle.front.specs.Standing.{mostBytes, standsFor, CountedOn, Gathered};
 ghost use Rattle.front.specs.Printing.{decimal, effectWord, reachWord, lineOf, rulesText};
 ghost use Rattle.front.specs.Inner.{Room, Puts, lineWith, refusalWith, mostText, Areas, Short, Answered};
 
@@ -56,7 +56,7 @@ fn past(scratch: &mut [u8]) -> usize {
 // Reads on to the end of the input, of which the most bytes are kept already: what stands for the whole. The turns are
 // counted only so that the loop ends.
 fn rest(scratch: &mut [u8]) -> usize
-    ensures { λ r. ⌜ r < mostBytes + 2 * width ⌝ }
+    ensures { λ r. ⌜ CountedOn r ⌝ }
 {
     let mut total = MOST_BYTES;
     let mut turns = u64::MAX;
@@ -74,7 +74,7 @@ fn rest(scratch: &mut [u8]) -> usize
 // Reads the whole input, keeping its front: how many of the kept bytes stand for it.
 fn gather(kept: &mut [u8], scratch: &mut [u8]) -> usize
     requires { ⌜ mostBytes + 2 * width ≤ length (now kept) ⌝ }
-    ensures { λ r. ⌜ r ≤ length (now (kept .exit)) ⌝ }
+    ensures { λ r. ⌜ Gathered (now (kept .exit)) r ⌝ }
 {
     let n = io::read_full(STDIN_FILENO, &mut kept[..MOST_BYTES]);
     if n < MOST_BYTES {

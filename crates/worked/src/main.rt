@@ -1,4 +1,6 @@
 // The cases that were worked by hand, run through the library: a line for each says what was given and what came out.
+mod edges;
+mod lists;
 mod making;
 mod saying;
 
@@ -180,71 +182,6 @@ fn refused(line: &[u8], combining: Combining) {
     say_refused(line, combining, &mut d[..n]);
 }
 
-// What the reader says of bytes.
-fn say_read(name: &[u8], d: &[u8]) {
-    say(name);
-    say(b": ");
-    saying::say_read(dossier::read(d));
-    say(b"\n");
-}
-
-// Elements as they are written, read.
-fn read_line(line: &[u8]) {
-    let n = making::size(line);
-    let d = making::elements(line);
-    say_read(line, front(&d, n));
-}
-
-// Two chains, of which the second is one element too deep.
-fn say_chains(d: &mut [u8]) {
-    making::put_chain(d);
-    say_read(b"depths 0 to 63", front(d, 512));
-    say_read(b"depths 0 to 64", front(d, 520));
-}
-
-// The area of the chains.
-fn chains() {
-    let mut d = [0u8; 520];
-    say_chains(&mut d);
-}
-
-// Dossiers of a root and children, cut at these lengths.
-fn say_lengths(d: &mut [u8]) {
-    making::put_flat(d);
-    say_read(b"32768 bytes", front(d, 32768));
-    say_read(b"32776 bytes", front(d, 32776));
-    say_read(b"32775 bytes", front(d, 32775));
-    say_read(b"7 bytes", front(d, 7));
-    say_read(b"0 bytes", front(d, 0));
-}
-
-// The area of the lengths.
-fn lengths() {
-    let mut d = [0u8; 32776];
-    say_lengths(&mut d);
-}
-
-// An element decided over two lists, and by which rule.
-fn say_decided<'a>(name: &[u8], d: &[u8], house: &'a [u8], recipient: &'a [u8], combining: usize) {
-    say(name);
-    say(b", combining ");
-    saying::say_number(combining);
-    say(b": ");
-    saying::say_answer(rules::decide(d, house, recipient, combining, 1));
-    say(b" by ");
-    saying::say_rule(rules::deciding(d, house, recipient, combining, 1));
-    say(b"\n");
-}
-
-// Element 1 of case B, over a house list and a recipient's, each of one rule.
-fn decided(name: &[u8], house: [u8; 8], recipient: [u8; 8]) {
-    let b = making::elements(b"0:0 1:1 2:0");
-    let d = front(&b, 24);
-    say_decided(name, d, &house, &recipient, 0);
-    say_decided(name, d, &house, &recipient, 1);
-    say_decided(name, d, &house, &recipient, 2);
-}
-
 // The table of cases.
 fn cases() {
     let unsaid = Combining::Unsaid;
@@ -289,21 +226,8 @@ fn combined() {
 fn main() {
     cases();
     verdicts();
-    read_line(b"0:0 2:0");
-    read_line(b"0:0 0:0");
-    chains();
-    lengths();
-    let deny_all = making::rule(0, 0, 1);
-    let permit_self = making::rule(1, 1, 0);
-    decided(
-        b"element 1 of B, house 0 deny all, recipient 1 permit self",
-        deny_all,
-        permit_self,
-    );
-    decided(
-        b"element 1 of B, house 1 permit self, recipient 0 deny all",
-        permit_self,
-        deny_all,
-    );
+    edges::edges();
+    lists::deciding();
+    lists::refusing();
     combined();
 }

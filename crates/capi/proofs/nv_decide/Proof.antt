@@ -12,7 +12,7 @@ pack-answer-requires : tie.Need-pack-answer-requires
 pack-answer-requires c κs = search needs
 
 returns : tie.Need-returns
-returns c = c .pack-answer .ensures ∙ ap packedAnswer (c .before .decide .ensures)
+returns c = c .pack-answer .ensures ∙ ap packedAnswer (c .before .decide .ensures .0)
 
 pub nv-decide-spec : {M : Type 1} → statement M
 nv-decide-spec = tie.close (tie.spec decide-requires pack-answer-requires returns)

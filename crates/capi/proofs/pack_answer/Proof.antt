@@ -18,7 +18,7 @@ pack-refusal-requires : tie.Need-pack-refusal-requires
 pack-refusal-requires c κs = search needs
 
 returns : tie.Need-returns
-returns c = search needs
+returns c = c .pack-decision .ensures ∙ sym (ap packedAnswer (c .before .before .answer .given .1))
 
 returns-2 : tie.Need-returns-2
 returns-2 c = c .pack-refusal .ensures ∙ sym (ap packedAnswer (c .before .before .answer2 .given .1))

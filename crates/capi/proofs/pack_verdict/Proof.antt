@@ -38,10 +38,10 @@ add-result-3 : tie.Need-add-result-3
 add-result-3 c = omega (arith, decision-small (c .before .before .verdict2 .given .0 .1 .0))
 
 returns : tie.Need-returns
-returns c = search needs
+returns c = sym (ap packedVerdict (c .enum-told .given .1))
 
 returns-2 : tie.Need-returns-2
-returns-2 c = sym (ap packedVerdict (c .before .verdict .given .1))
+returns-2 c = rw (c .before .verdict .given .1) (omega arith)
 
 returns-3 : tie.Need-returns-3
 returns-3 c = rw (c .pack-decision .ensures, c .before .before .verdict2 .given .1)

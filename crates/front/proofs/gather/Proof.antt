@@ -1,7 +1,8 @@
--- `gather` meets its contract: what stands for the input is no longer than what is kept.
+-- `gather` meets its contract: what is kept stands for an input, whether it ended before the most bytes or not.
 use mathlib.Core.Path.{sym}
 use lib.Seq.{length-take-le}
 use Rattle.front.specs.Standing.{mostBytes}
+use Rattle.front.proofs.Standing.{gathered-all, gathered-front}
 use borrow.Author.Needs.{needs}
 use Rattle.front.proofs.gather.Statement.{statement}
 use Rattle.front.proofs.gather.Tie as tie
@@ -19,7 +20,7 @@ same-length : tie.Need-same-length
 same-length c = search needs
 
 returns : tie.Need-returns
-returns c = search needs
+returns c = gathered-all _ _ (search needs) (search needs)
 
 rest-requires : tie.Need-rest-requires
 rest-requires c κs = search needs
@@ -31,7 +32,7 @@ same-length-3 : tie.Need-same-length-3
 same-length-3 c = search needs
 
 returns-2 : tie.Need-returns-2
-returns-2 c = search needs
+returns-2 c = gathered-front _ _ (search needs) (c .before .before .rest .ensures)
 
 pub gather-spec : {M : Type 1} → statement M
 gather-spec =

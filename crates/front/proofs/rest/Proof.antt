@@ -1,8 +1,6 @@
 -- `rest` meets its contract. Assumes nothing.
-use Rattle.dossier.specs.Limits.{width}
-use Rattle.front.specs.Standing.{mostBytes}
-use Rattle.front.proofs.Standing.{stands-below}
-use Prim.Native.Nat.{_+_, _*_, _<_}
+use Rattle.front.specs.Standing.{CountedOn}
+use Rattle.front.proofs.Standing.{counted-none, counted-more}
 use mathlib.Core.Path.{_≡_}
 use lib.ListN.{length}
 use borrow.Author.Needs.{needs}
@@ -10,13 +8,13 @@ use Rattle.front.proofs.rest.Statement.{statement}
 use Rattle.front.proofs.rest.Tie as tie
 
 abbrev Inv-loop : tie.InvT-loop
-Inv-loop scratch₀ total₀ turns₀ scratch total turns = (length scratch ≡ length scratch₀) × (total < mostBytes + 2 * width)
+Inv-loop scratch₀ total₀ turns₀ scratch total turns = (length scratch ≡ length scratch₀) × CountedOn total
 
 abbrev μ-loop : tie.MeasureT-loop
 μ-loop scratch₀ total₀ turns₀ scratch total turns = turns
 
 loop-holds : tie.Need-loop-holds Inv-loop μ-loop
-loop-holds c = search needs
+loop-holds c = (search needs, counted-none)
 
 past-requires : tie.Need-past-requires Inv-loop μ-loop
 past-requires c κs = search needs
@@ -37,7 +35,7 @@ loop-less : tie.Need-loop-less Inv-loop μ-loop
 loop-less c = search needs
 
 loop-again : tie.Need-loop-again Inv-loop μ-loop
-loop-again c = (search needs, stands-below _ _ (c .counted-on .ensures))
+loop-again c = (search needs, counted-more _ _ _ (c .before .before .before .before .before .before .before .loop .inv .1) (c .counted-on .ensures))
 
 same-length-2 : tie.Need-same-length-2 Inv-loop μ-loop
 same-length-2 c = search needs
