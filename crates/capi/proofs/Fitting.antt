@@ -21,6 +21,7 @@ use Rattle.dossier.proofs.Sounds.{counted-sound, counted}
 use Rattle.dossier.proofs.Rows.{refused-row}
 use Rattle.rules.specs.ReadingRules.{readRulesOf}
 use Rattle.rules.specs.RuleTable as rule
+use Rattle.rules.specs.Combining.{Combining, firstApplicable, lastCombining, combiningOf}
 use Rattle.rules.specs.Deciding.{numbersOf, askedOf, answered, decideOf}
 use Rattle.rules.proofs.ListSounds as rules
 use Rattle.marks.specs.Stepping.{fieldsStep, refusedStep, acceptedStep, takeOf, Leaves, Steps}
@@ -92,7 +93,7 @@ few d n e = omega (arith, counted-sound d n e .few)
 
 numbers-fits : (n c i : ℕ) → n ≤ mostElements → FitsReply (numbersOf n c i)
 unfolding numbersOf
-numbers-fits n c i s = go (ltb 2 c) (leb n i)
+numbers-fits n c i s = go (ltb lastCombining c) (leb n i)
   where
     go : (over past : Bool) → FitsReply (cond over (refusal 11 0 0) (cond past (refusal 10 0 0) (Count n)))
     go true past = small (omega arith) (omega arith) (omega arith)
@@ -210,12 +211,12 @@ module _ (A : Answers) (d : List ℕ) (x : Reply) (fits : FitsReply x) (sound : 
       go (Refused g) e s (judgement.Refused f) h = rw h s
 
 -- by the listed rules
-listed-few : (c : ℕ) (d : List ℕ) → Sound d → (ms : List Mark) → Least (listed c) (elementsOf d) ms → count (elementsOf d) ms ≤ mostElements
+listed-few : (c : Combining) (d : List ℕ) → Sound d → (ms : List Mark) → Least (listed c) (elementsOf d) ms → count (elementsOf d) ms ≤ mostElements
 listed-few c d s ms l = omega (arith, count-least c d s ms l, least-bounds c d s, s .few)
 
 -- and by the walk, as first applicable does
 walked-few : (d : List ℕ) → Sound d → (ms : List Mark) → Least (walked first) (elementsOf d) ms → count (elementsOf d) ms ≤ mostElements
-walked-few d s ms l = listed-few 0 d s ms (least-as (first-matches (elementsOf d) (s .order)) ms l)
+walked-few d s ms l = listed-few firstApplicable d s ms (least-as (first-matches (elementsOf d) (s .order)) ms l)
 
 pub folded-fits : (d : List ℕ) (reply : Reply) (new : List ℕ) → Folded d reply new → FitsReply reply
 folded-fits d = folded-after-fits (walked first) d (readOf d) (read-fits d) (counted-sound d) (walked-few d)
@@ -226,17 +227,17 @@ judged-fits d = judged-after-fits (walked first) d (readOf d) (read-fits d) (cou
 module _ (c : ℕ) (d : List ℕ) where
   asked-for-fits : FitsReply (askedFor d c)
   unfolding askedFor
-  asked-for-fits = then-fits (readOf d) _ (read-fits d) (λ n e. go (ltb 2 c) (few d n e))
+  asked-for-fits = then-fits (readOf d) _ (read-fits d) (λ n e. go (ltb lastCombining c) (few d n e))
     where
       go : (t : Bool) → records d ≤ mostElements → FitsReply (cond t (refusal 11 0 0) (Count (records d)))
       go true l = small (omega arith) (omega arith) (omega arith)
       go false l = omega arith
 
   pub folded-for-fits : (reply : Reply) (new : List ℕ) → FoldedFor c d reply new → FitsReply reply
-  folded-for-fits = folded-after-fits (listed c) d (askedFor d c) asked-for-fits (asked-sound d c) (listed-few c d)
+  folded-for-fits = folded-after-fits (listed (combiningOf c)) d (askedFor d c) asked-for-fits (asked-sound d c) (listed-few (combiningOf c) d)
 
   pub judged-for-fits : (j : Judgement) → JudgedFor c d j → FitsJudgement j
-  judged-for-fits = judged-after-fits (listed c) d (askedFor d c) asked-for-fits (asked-sound d c) (listed-few c d)
+  judged-for-fits = judged-after-fits (listed (combiningOf c)) d (askedFor d c) asked-for-fits (asked-sound d c) (listed-few (combiningOf c) d)
 
 pub views-fits : (d area : List ℕ) (reply : Reply) (new : List ℕ) → Views d area reply new → FitsReply reply
 views-fits d area reply new v = go (readOf d) refl (read-fits d) v

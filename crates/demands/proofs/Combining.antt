@@ -16,7 +16,7 @@ use Rattle.dossier.specs.declared.Decision.the-variants.{Deny, Permit, None}
 use Rattle.dossier.proofs.Parents.{covers-chain}
 use Rattle.rules.specs.Rules.{Reach, self, all, Rule}
 use Rattle.rules.specs.Applying.{reaches, applies}
-use Rattle.rules.specs.Combining.{gives, firstApplicable, anyGives, overrides, decision}
+use Rattle.rules.specs.Combining.{Combining, firstApplicable, denyOverrides, permitOverrides, firstEffect, gives, anyGives, overrides, decision}
 use Rattle.rules.proofs.Choice.{gives-is, is-gives}
 use Rattle.demands.specs.Published.{Reaches, Says, Some, NoRule, First, Chosen, Published}
 
@@ -55,10 +55,10 @@ module _ (es : List Element) (o : Ordered es) (i : ℕ) where
 
   -- ---- first applicable
 
-  first-published : (rs : List Rule) → Published es i rs 0 (firstApplicable es i rs)
-  unfolding firstApplicable
+  first-published : (rs : List Rule) → Published es i rs firstApplicable (firstEffect es i rs)
+  unfolding firstEffect
   first-published [] = λ e k. empty k e
-  first-published (r ∷ rs) = go (applies es i r) refl (firstApplicable es i rs) (first-published rs)
+  first-published (r ∷ rs) = go (applies es i r) refl (firstEffect es i rs) (first-published rs)
     where
       start : (e : Effect) → r .effect ≡ e → applies es i r ≡ true → First es i (r ∷ rs) e
       start e q a = (0, subst (Says es i (r ∷ rs) 0) q (here r rs a), λ j l. let z : ⊥ = omega arith in absurd z)
@@ -73,15 +73,15 @@ module _ (es : List Element) (o : Ordered es) (i : ℕ) where
           before zero l f s = none a f s
           before (suc j) l f s = w .2 j (omega arith) f (back r rs j f s)
 
-      silent : applies es i r ≡ false → Published es i rs 0 None → Published es i (r ∷ rs) 0 None
+      silent : applies es i r ≡ false → Published es i rs firstApplicable None → Published es i (r ∷ rs) firstApplicable None
       silent a h e zero s = none a e s
       silent a h e (suc k) s = h e k (back r rs k e s)
 
-      effect : (e : Effect) → r .effect ≡ e → applies es i r ≡ true → Published es i (r ∷ rs) 0 (is e)
+      effect : (e : Effect) → r .effect ≡ e → applies es i r ≡ true → Published es i (r ∷ rs) firstApplicable (is e)
       effect deny q a = start deny q a
       effect permit q a = start permit q a
 
-      go : (t : Bool) → applies es i r ≡ t → (v : Decision) → Published es i rs 0 v → Published es i (r ∷ rs) 0 (cond t (is (r .effect)) v)
+      go : (t : Bool) → applies es i r ≡ t → (v : Decision) → Published es i rs firstApplicable v → Published es i (r ∷ rs) firstApplicable (cond t (is (r .effect)) v)
       go true a v h = effect (r .effect) refl a
       go false a Deny h = more deny a h
       go false a Permit h = more permit a h
@@ -117,18 +117,18 @@ module _ (es : List Element) (o : Ordered es) (i : ℕ) where
     neither a b deny = a
     neither a b permit = b
 
-    published : (c : ℕ) → Published es i rs c (decision c es i rs)
+    published : (c : Combining) → Published es i rs c (decision c es i rs)
     unfolding overrides Any
-    published zero = first-published rs
-    published (suc zero) = go (anyGives deny es i rs) (anyGives permit es i rs) (any deny rs) (any permit rs)
+    published firstApplicable = first-published rs
+    published denyOverrides = go (anyGives deny es i rs) (anyGives permit es i rs) (any deny rs) (any permit rs)
       where
-        go : (s t : Bool) → Any deny rs s → Any permit rs t → Published es i rs 1 (cond s Deny (cond t Permit None))
+        go : (s t : Bool) → Any deny rs s → Any permit rs t → Published es i rs denyOverrides (cond s Deny (cond t Permit None))
         go true t a b = a
         go false true a b = (a, b)
         go false false a b = neither a b
-    published (suc (suc c)) = go (anyGives permit es i rs) (anyGives deny es i rs) (any permit rs) (any deny rs)
+    published permitOverrides = go (anyGives permit es i rs) (anyGives deny es i rs) (any permit rs) (any deny rs)
       where
-        go : (s t : Bool) → Any permit rs s → Any deny rs t → Published es i rs (suc (suc c)) (cond s Permit (cond t Deny None))
+        go : (s t : Bool) → Any permit rs s → Any deny rs t → Published es i rs permitOverrides (cond s Permit (cond t Deny None))
         go true t a b = a
         go false true a b = (a, b)
         go false false a b = neither b a
@@ -146,19 +146,19 @@ module _ (es : List Element) (o : Ordered es) (i : ℕ) where
             let q : some (x .1 .rule) ≡ some (y .1 .rule) = sym (x .1 .stands) ∙ ap (getElem? rs) k ∙ y .1 .stands in
             sym (x .1 .effect) ∙ ap (λ (r : Rule). r .effect) (Option·some-injective _ _ q) ∙ y .1 .effect
 
-    not-both : (c : ℕ) → Chosen es i rs c deny → Chosen es i rs c permit → ⊥
-    not-both zero x y = let e = first-one deny permit x y in let z : _≡_ {A = ℕ} 0 1 = cc in omega arith
-    not-both (suc zero) x y = y .0 (x .0) (x .1)
-    not-both (suc (suc c)) x y = x .0 (y .0) (y .1)
+    not-both : (c : Combining) → Chosen es i rs c deny → Chosen es i rs c permit → ⊥
+    not-both firstApplicable x y = let e = first-one deny permit x y in let z : _≡_ {A = ℕ} 0 1 = cc in omega arith
+    not-both denyOverrides x y = y .0 (x .0) (x .1)
+    not-both permitOverrides x y = x .0 (y .0) (y .1)
 
-    not-silent : (c : ℕ) (e : Effect) → Chosen es i rs c e → ((f : Effect) → NoRule es i rs f) → ⊥
-    not-silent zero e x n = n e (x .0) (x .1)
-    not-silent (suc zero) deny x n = n deny (x .0) (x .1)
-    not-silent (suc zero) permit x n = n permit (x .1 .0) (x .1 .1)
-    not-silent (suc (suc c)) permit x n = n permit (x .0) (x .1)
-    not-silent (suc (suc c)) deny x n = n deny (x .1 .0) (x .1 .1)
+    not-silent : (c : Combining) (e : Effect) → Chosen es i rs c e → ((f : Effect) → NoRule es i rs f) → ⊥
+    not-silent firstApplicable e x n = n e (x .0) (x .1)
+    not-silent denyOverrides deny x n = n deny (x .0) (x .1)
+    not-silent denyOverrides permit x n = n permit (x .1 .0) (x .1 .1)
+    not-silent permitOverrides permit x n = n permit (x .0) (x .1)
+    not-silent permitOverrides deny x n = n deny (x .1 .0) (x .1 .1)
 
-    one : (c : ℕ) (v w : Decision) → Published es i rs c v → Published es i rs c w → v ≡ w
+    one : (c : Combining) (v w : Decision) → Published es i rs c v → Published es i rs c w → v ≡ w
     one c Deny Deny x y = refl
     one c Deny Permit x y = absurd (not-both c x y)
     one c Deny None x y = absurd (not-silent c deny x y)
@@ -169,5 +169,5 @@ module _ (es : List Element) (o : Ordered es) (i : ℕ) where
     one c None Permit x y = absurd (not-silent c permit y x)
     one c None None x y = refl
 
-    pub is-published : (c : ℕ) (v : Decision) → (decision c es i rs ≡ v) ↔ Published es i rs c v
+    pub is-published : (c : Combining) (v : Decision) → (decision c es i rs ≡ v) ↔ Published es i rs c v
     is-published c v = (λ e. subst (Published es i rs c) e (published c), one c (decision c es i rs) v (published c))

@@ -1,4 +1,4 @@
--- 0 is the base's folder and judge, and permit overrides is deny overrides with permit and deny exchanged. Assumes nothing.
+-- Each combining has its number, 0 is the base's folder and judge, and permit overrides is deny overrides with permit and deny exchanged. Assumes nothing.
 use mathlib.Core.Path.{_≡_, sym, _∙_, subst}
 use mathlib.Core.Logic.{_↔_}
 use Prim.Native.Nat.{ℕ}
@@ -6,7 +6,9 @@ use mathlib.Core.List.{List}
 use lib.ListN.{length}
 use Rattle.dossier.specs.Elements.{Mark, Element}
 use Rattle.dossier.specs.declared.Decision.{Decision}
+use Rattle.rules.specs.Combining.{denyOverrides, permitOverrides}
 use Rattle.rules.specs.Exchange.{turned, exchangedElements}
+use Rattle.rules.proofs.Combinings.{of-number, number-of}
 use Rattle.rules.proofs.Exchange.{turned-twice, decisions-exchanged}
 use Rattle.listing.proofs.Exchanging.{count-exchanged}
 use Rattle.least.specs.Least.{listed}
@@ -18,24 +20,27 @@ use Rattle.least.proofs.Replies.{folded-as-0, folded-of-0, judged-as-0, judged-
 use Rattle.demands.specs.Combinings.{Combinings}
 
 module _ (es : List Element) (ms : List Mark) where
-  back : Matches (listed 2) (listed 1) turned es (exchangedElements es)
+  back : Matches (listed permitOverrides) (listed denyOverrides) turned es (exchangedElements es)
   back = matches-back (exchange es)
 
-  longer-exchanged : (n : ℕ) → Longer (listed 2) es ms n ↔ Longer (listed 1) (exchangedElements es) ms n
+  longer-exchanged : (n : ℕ) → Longer (listed permitOverrides) es ms n ↔ Longer (listed denyOverrides) (exchangedElements es) ms n
   longer-exchanged n = (
     λ h. holds-as back ms (h .right .each ∙ back .long) (verdict.Longer n) h,
     λ h. holds-as (exchange es) ms (h .right .each ∙ exchange es .long) (verdict.Longer n) h,
   )
 
   wrong-exchanged : length ms ≡ length es → (i : ℕ) (a : Decision)
-      → Wrong (listed 2) es ms i (turned a) ↔ Wrong (listed 1) (exchangedElements es) ms i a
+      → Wrong (listed permitOverrides) es ms i (turned a) ↔ Wrong (listed denyOverrides) (exchangedElements es) ms i a
   wrong-exchanged q i a = (
-    λ h. subst (Wrong (listed 1) (exchangedElements es) ms i) (turned-twice a) (holds-as back ms (q ∙ back .long) (verdict.Wrong i (turned a)) h),
+    λ h. subst (Wrong (listed denyOverrides) (exchangedElements es) ms i) (turned-twice a) (holds-as back ms (q ∙ back .long) (verdict.Wrong i (turned a)) h),
     λ h. holds-as (exchange es) ms q (verdict.Wrong i a) h,
   )
 
 pub combinings : Combinings
 combinings = record {
+  numbered = of-number;
+  fold-by = λ n few d reply new. rw (number-of n few) (λ f. f, λ f. f);
+  judge-by = λ n few d j. rw (number-of n few) (λ f. f, λ f. f);
   fold-0 = λ d reply new. (folded-of-0 d reply new, folded-as-0 d reply new);
   judge-0 = λ d j. (judged-of-0 d j, judged-as-0 d j);
   answers = decisions-exchanged;

@@ -18,7 +18,7 @@ use Rattle.dossier.specs.declared.Answer.the-variants.{Given, Refused}
 use Rattle.rules.specs.Rules.{Rule, ruleAt}
 use Rattle.rules.specs.ReadingRules.{SoundRules}
 use Rattle.rules.specs.Applying.{applies}
-use Rattle.rules.specs.Combining.{decision}
+use Rattle.rules.specs.Combining.{lastCombining, combiningOf}
 use Rattle.rules.specs.Deciding.{decidingAt, bothRules, decideOf, decidingOf}
 use Rattle.rules.proofs.Answers.{given-answer, given-part}
 use Rattle.rules.proofs.Parts.{FirstGiving, Silent, none, refused, part-empty, decided-first}
@@ -44,10 +44,10 @@ module _ (d house recipient : List ℕ) (c i : ℕ) where
   abbrev rules : List Rule
   rules = bothRules house recipient
 
-  pub decided : Sound d → SoundRules d house → SoundRules d recipient → c ≤ 2 → i < records d
-      → (v : Decision) → (decideOf d house recipient c i ≡ Given v) ↔ Published (elementsOf d) i rules c v
+  pub decided : Sound d → SoundRules d house → SoundRules d recipient → c ≤ lastCombining → i < records d
+      → (v : Decision) → (decideOf d house recipient c i ≡ Given v) ↔ Published (elementsOf d) i rules (combiningOf c) v
   decided s h r l m v =
-      let p = is-published (elementsOf d) (s .order) i rules c v in
+      let p = is-published (elementsOf d) (s .order) i rules (combiningOf c) v in
       let g = given-answer d house recipient c i v in (
         λ e. p .0 (sym (g .0 e .1)),
         λ q. g .1 (record { elements = s; first = h; second = r; combining = l; element = m }, sym (p .1 q)),
@@ -56,7 +56,7 @@ module _ (d house recipient : List ℕ) (c i : ℕ) where
   pub deciding-rule : (e : Effect) → decideOf d house recipient c i ≡ Given (is e) → Deciding (elementsOf d) i house recipient e (decidingOf d house recipient c i)
   deciding-rule e given =
       let z = ruleAt [] 0 in
-      let k = decidingAt c (elementsOf d) i rules in
+      let k = decidingAt (combiningOf c) (elementsOf d) i rules in
       let order : Ordered (elementsOf d) = given-answer d house recipient c i (is e) .0 given .0 .elements .order in
       let f : FirstGiving (elementsOf d) i rules z (is e) k = decided-first d house recipient c i (is e) given (not-none e) z in
       let found : Rule = getD rules k z in

@@ -19,7 +19,7 @@ use Rattle.dossier.proofs.RoundTrip.{mark-back}
 use Rattle.dossier.proofs.Sounds.{counted-sound}
 use Rattle.rules.specs.Rules.{Rule, rulesOf, listBytes}
 use Rattle.rules.specs.ReadingRules.{readRulesOf}
-use Rattle.rules.specs.Combining.{decision}
+use Rattle.rules.specs.Combining.{Combining, firstApplicable, combiningOf, decision}
 use Rattle.rules.proofs.RoundTrip.{rules-back}
 use Rattle.marks.specs.Marks.{first}
 use Rattle.marks.specs.Walking.{walked}
@@ -167,7 +167,7 @@ module _ (A : Answers) (x : Reply) (d : List ℕ) (sound : (n : ℕ) → x ≡ C
           let v = verdictOf A es marks (folds (sound n e) .least) (marksOf es) (marks-length d) long in
           by (judgement.Reported (record { count = count es (marksOf es); verdict = v .0 })) (rw e (judges-by A es (marksOf es) _ refl (v .1)))
 
-module _ (c : ℕ) (d : List ℕ) where
+module _ (c : Combining) (d : List ℕ) where
   -- the folder's marks under this combining
   folded : List Mark
   folded = fold (gatewayOf c) wrongCost (elementsFor c d)
@@ -176,24 +176,28 @@ module _ (c : ℕ) (d : List ℕ) where
   unfolding folded
   folded-listed s = fold-listed c d s
 
-  fold-for-only : OneReply (FoldedFor c d)
-  fold-for-only = fold-by (listed c) (askedFor d c) d (asked-sound d c) folded folded-listed
+module _ (number : ℕ) (d : List ℕ) where
+  abbrev c : Combining
+  c = combiningOf number
 
-  judge-for-only : ExactlyOne (JudgedFor c d)
+  fold-for-only : OneReply (FoldedFor number d)
+  fold-for-only = fold-by (listed c) (askedFor d number) d (asked-sound d number) (folded c d) (folded-listed c d)
+
+  judge-for-only : ExactlyOne (JudgedFor number d)
   judge-for-only =
-      judge-by (listed c) (askedFor d c) d (asked-sound d c) folded folded-listed
+      judge-by (listed c) (askedFor d number) d (asked-sound d number) (folded c d) (folded-listed c d)
       (run-length (λ i. decision c (elementsOf d) i (listOf (elementsOf d) (marksOf (elementsOf d)))) 0 (length (elementsOf d)))
 
 module _ (d : List ℕ) where
-  folded-walked : Sound d → Fold (walked first) (elementsOf d) (folded 0 d)
-  folded-walked s = fold-as (matches-back (first-matches (elementsOf d) (s .order))) (folded 0 d) (folded-listed 0 d s)
+  folded-walked : Sound d → Fold (walked first) (elementsOf d) (folded firstApplicable d)
+  folded-walked s = fold-as (matches-back (first-matches (elementsOf d) (s .order))) (folded firstApplicable d) (folded-listed firstApplicable d s)
 
   fold-only : OneReply (Folded d)
-  fold-only = fold-by (walked first) (readOf d) d (counted-sound d) (folded 0 d) folded-walked
+  fold-only = fold-by (walked first) (readOf d) d (counted-sound d) (folded firstApplicable d) folded-walked
 
   judge-only : ExactlyOne (Judged d)
   judge-only =
-      judge-by (walked first) (readOf d) d (counted-sound d) (folded 0 d) folded-walked
+      judge-by (walked first) (readOf d) d (counted-sound d) (folded firstApplicable d) folded-walked
       (walk-length first [] (elementsOf d) (marksOf (elementsOf d)) (marks-length d))
 
 -- ---- the view

@@ -19,7 +19,7 @@ use Rattle.dossier.specs.declared.Reply.the-variants.{Count, Refused}
 use Rattle.dossier.specs.declared.Answer.the-variants as answer
 use Rattle.dossier.proofs.Rows.{refused-row}
 use Rattle.rules.specs.ReadingRules.{readRulesOf}
-use Rattle.rules.specs.Combining.{decision}
+use Rattle.rules.specs.Combining.{lastCombining, combiningOf, decision}
 use Rattle.rules.specs.Deciding.{numbersOf, askedOf, bothRules, answered, decideOf}
 use Rattle.rules.proofs.ListSounds.{refused-row as refused-rules}
 use Rattle.marks.specs.Marks.{first}
@@ -88,15 +88,15 @@ module _ (d rs : List ℕ) (reply : Reply) (new : List ℕ) where
 
 numbers-refused : (d : List ℕ) (c i : ℕ) → RefusesReply (numbersOf (records d) c i) (noCombining c before noElement d i)
 unfolding numbersOf
-numbers-refused d c i = go (ltb 2 c) (leb (records d) i) refl refl
+numbers-refused d c i = go (ltb lastCombining c) (leb (records d) i) refl refl
   where
-    go : (s t : Bool) → ltb 2 c ≡ s → leb (records d) i ≡ t
+    go : (s t : Bool) → ltb lastCombining c ≡ s → leb (records d) i ≡ t
         → RefusesReply (cond s (refusal 11 0 0) (cond t (refusal 10 0 0) (Count (records d)))) (noCombining c before noElement d i)
-    go true t p q = here Refused (row-here Refused same-refused 11 0 0 _ (ltb-true 2 c p))
+    go true t p q = here Refused (row-here Refused same-refused 11 0 0 _ (ltb-true lastCombining c p))
     go false true p q =
-        on Refused (row-free (λ l. omega (arith, ltb-false 2 c p))) (row-here Refused same-refused 10 0 0 _ (leb-true (records d) i q))
+        on Refused (row-free (λ l. omega (arith, ltb-false lastCombining c p))) (row-here Refused same-refused 10 0 0 _ (leb-true (records d) i q))
     go false false p q =
-        on Refused (row-free (λ l. omega (arith, ltb-false 2 c p)))
+        on Refused (row-free (λ l. omega (arith, ltb-false lastCombining c p)))
         (no-refusal Refused (row-free (λ l. omega (arith, leb-false (records d) i q))) count-never)
 
 answered-refused : (P : Refusals) (q : Reply) (v : Decision) → RefusesReply q P → Refuses answer.Refused (answered q v) P
@@ -108,7 +108,7 @@ pub decide-refused : (d house recipient : List ℕ) (c i : ℕ) → Refuses answ
     (inElements d before inRules d 1 house before inRules d 2 recipient before noCombining c before noElement d i)
 unfolding decideOf askedOf
 decide-refused d house recipient c i =
-    answered-refused _ (askedOf d house recipient c i) (decision c (elementsOf d) i (bothRules house recipient))
+    answered-refused _ (askedOf d house recipient c i) (decision (combiningOf c) (elementsOf d) i (bothRules house recipient))
     (then (readOf d) _ (refused-row d) (λ n e.
     then (readRulesOf d 1 house) _ (refused-rules d house 1) (λ n e.
     then (readRulesOf d 2 recipient) _ (refused-rules d recipient 2) (λ n e. numbers-refused d c i))))
@@ -146,12 +146,12 @@ fold-unchanged d = folded-unchanged (walked first) (readOf d) d
 pub judge-refused : (d : List ℕ) (j : Judgement) → Judged d j → Refuses judgement.Refused j (inElements d)
 judge-refused d = judged-refused (walked first) (inElements d) (readOf d) d (refused-row d)
 
-combining-refused : (c n : ℕ) → RefusesReply (cond (ltb 2 c) (refusal 11 0 0) (Count n)) (noCombining c)
-combining-refused c n = go (ltb 2 c) refl
+combining-refused : (c n : ℕ) → RefusesReply (cond (ltb lastCombining c) (refusal 11 0 0) (Count n)) (noCombining c)
+combining-refused c n = go (ltb lastCombining c) refl
   where
-    go : (t : Bool) → ltb 2 c ≡ t → RefusesReply (cond t (refusal 11 0 0) (Count n)) (noCombining c)
-    go true e = row-here Refused same-refused 11 0 0 _ (ltb-true 2 c e)
-    go false e = no-refusal Refused (row-free (λ l. omega (arith, ltb-false 2 c e))) count-never
+    go : (t : Bool) → ltb lastCombining c ≡ t → RefusesReply (cond t (refusal 11 0 0) (Count n)) (noCombining c)
+    go true e = row-here Refused same-refused 11 0 0 _ (ltb-true lastCombining c e)
+    go false e = no-refusal Refused (row-free (λ l. omega (arith, ltb-false lastCombining c e))) count-never
 
 module _ (c : ℕ) (d : List ℕ) where
   asked-refused : RefusesReply (askedFor d c) (inElements d before noCombining c)
@@ -159,13 +159,13 @@ module _ (c : ℕ) (d : List ℕ) where
   asked-refused = then (readOf d) _ (refused-row d) (λ n e. combining-refused c (records d))
 
   pub fold-for-refused : (reply : Reply) (new : List ℕ) → FoldedFor c d reply new → RefusesReply reply (inElements d before noCombining c)
-  fold-for-refused = folded-refused (listed c) (inElements d before noCombining c) (askedFor d c) d asked-refused
+  fold-for-refused = folded-refused (listed (combiningOf c)) (inElements d before noCombining c) (askedFor d c) d asked-refused
 
   pub fold-for-unchanged : (reply : Reply) (new : List ℕ) (f : Refusal) → FoldedFor c d reply new → reply ≡ Refused f → new ≡ d
-  fold-for-unchanged = folded-unchanged (listed c) (askedFor d c) d
+  fold-for-unchanged = folded-unchanged (listed (combiningOf c)) (askedFor d c) d
 
   pub judge-for-refused : (j : Judgement) → JudgedFor c d j → Refuses judgement.Refused j (inElements d before noCombining c)
-  judge-for-refused = judged-refused (listed c) (inElements d before noCombining c) (askedFor d c) d asked-refused
+  judge-for-refused = judged-refused (listed (combiningOf c)) (inElements d before noCombining c) (askedFor d c) d asked-refused
 
 -- ---- the view
 

@@ -1,11 +1,10 @@
--- Demand 3 holds by the walk, and read with each combining number. Assumes nothing.
-use Prim.Native.Nat.{ℕ, _≤_}
+-- Demand 3 holds by the walk, and read with each combining. Assumes nothing.
 use mathlib.Core.List.{[]}
 use lib.ListN.{length}
 use Rattle.dossier.specs.Bytes.{elementsOf}
 use Rattle.dossier.proofs.Runs.{run-length}
 use Rattle.dossier.proofs.Sounds.{sound-counted}
-use Rattle.rules.specs.Combining.{decision}
+use Rattle.rules.specs.Combining.{Combining, decision}
 use Rattle.marks.specs.Marks.{first}
 use Rattle.marks.proofs.Forests.{walk-length}
 use Rattle.listing.specs.Listing.{listOf}
@@ -25,12 +24,12 @@ demand-3 = demand-by walking (record {
   ignores = own-ignore;
 })
 
-pub demand-3-for : (c : ℕ) → c ≤ 2 → Demand3 (combining c)
-demand-3-for c few = demand-by (combining c) (record {
+pub demand-3-for : (c : Combining) → Demand3 (combining c)
+demand-3-for c = demand-by (combining c) (record {
   all = λ es ms q. run-length (λ i. decision c es i (listOf es ms)) 0 (length es);
-  accepted = asked-few c few;
+  accepted = asked-few c;
   minuses = λ d s. minus-listed c (elementsOf d) (s .order);
-  lists = own-list-for c few;
-  judged = own-verdict-for c few;
-  ignores = own-ignore-for c few;
+  lists = own-list-for c;
+  judged = own-verdict-for c;
+  ignores = own-ignore-for c;
 })

@@ -18,6 +18,7 @@ use Rattle.dossier.specs.declared.Reply.the-variants.{Count}
 use Rattle.dossier.specs.declared.Answer.the-variants.{Given, Refused}
 use Rattle.rules.specs.Rules.{Rule, rulesOf, listBytes}
 use Rattle.rules.specs.ReadingRules.{SoundRules}
+use Rattle.rules.specs.Combining.{lastCombining, combiningOf}
 use Rattle.rules.specs.Deciding.{bothRules, decideOf, decidingOf}
 use Rattle.marks.specs.Marks.{first}
 use Rattle.marks.specs.Walking.{walked}
@@ -43,8 +44,8 @@ markedAt d m i = getD (walked first (elementsOf d) (m .marks)) i None
 
 pub record Demand2 : Type 0 where
   -- decisions over any rule list are those of the published combining rules, or none where no rule applies
-  pub decided : (d house recipient : List ℕ) (c i : ℕ) → Sound d → SoundRules d house → SoundRules d recipient → c ≤ 2 → i < records d
-      → (v : Decision) → (decideOf d house recipient c i ≡ Given v) ↔ Published (elementsOf d) i (bothRules house recipient) c v
+  pub decided : (d house recipient : List ℕ) (c i : ℕ) → Sound d → SoundRules d house → SoundRules d recipient → c ≤ lastCombining → i < records d
+      → (v : Decision) → (decideOf d house recipient c i ≡ Given v) ↔ Published (elementsOf d) i (bothRules house recipient) (combiningOf c) v
   -- the second call gives the deciding rule's bytes, and none exactly where the answer is none or the first call refuses
   pub deciding-rule : (d house recipient : List ℕ) (c i : ℕ) (e : Effect) → decideOf d house recipient c i ≡ Given (is e)
       → Deciding (elementsOf d) i house recipient e (decidingOf d house recipient c i)

@@ -13,6 +13,7 @@ use Rattle.dossier.specs.declared.Decision.{Decision}
 use Rattle.dossier.specs.declared.Decision.the-variants.{None}
 use Rattle.dossier.specs.declared.Reply.{Reply}
 use Rattle.dossier.specs.declared.Reply.the-variants.{Count}
+use Rattle.rules.specs.Combining.{Combining, combiningNumber}
 use Rattle.marks.specs.Marks.{first}
 use Rattle.marks.specs.Walking.{walked}
 use Rattle.listing.specs.Listing.{listOf}
@@ -36,11 +37,11 @@ pub record Way : Type 0 where
 abbrev pub walking : Way
 walking = record { answers = walked first; asked = readOf }
 
--- by deciding over the listed rules with a combining number
-abbrev pub combining : ℕ → Way
-combining c = record { answers = listed c; asked = λ d. askedFor d c }
+-- by deciding over the listed rules with a combining, asked for by its number
+abbrev pub combining : Combining → Way
+combining c = record { answers = listed c; asked = λ d. askedFor d (combiningNumber c) }
 
--- what the folder and the judge promise that way: with `walking` these are `Folded` and `Judged`, with `combining c` they are `FoldedFor c` and `JudgedFor c`
+-- what the folder and the judge promise that way: with `walking` these are `Folded` and `Judged`, with `combining c` they are `FoldedFor` and `JudgedFor` of its number (`fold-by` and `judge-by` in Combinings.antt)
 abbrev pub FoldedBy : Way → List ℕ → Reply → List ℕ → Type 0
 FoldedBy w d reply new = FoldedAfter (w .answers) (w .asked d) d reply new
 

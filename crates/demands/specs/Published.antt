@@ -1,7 +1,7 @@
 -- The published combining rules, in words about the positions of a rule list. Assumes nothing: these are definitions.
 use mathlib.Core.Path.{_≡_}
 use mathlib.Core.Option.{some}
-use Prim.Native.Nat.{ℕ, zero, suc, _<_}
+use Prim.Native.Nat.{ℕ, _<_}
 use mathlib.Core.List.{List, []}
 use lib.ListN.{getD, getElem?}
 use Rattle.dossier.specs.Elements.{Effect, deny, permit, Element}
@@ -9,6 +9,7 @@ use Rattle.dossier.specs.declared.Decision.{Decision}
 use Rattle.dossier.specs.declared.Decision.the-variants.{Deny, Permit, None}
 use Rattle.dossier.specs.Order.{Chain}
 use Rattle.rules.specs.Rules.{Reach, self, all, Rule}
+use Rattle.rules.specs.Combining.{Combining, firstApplicable, denyOverrides, permitOverrides}
 use Rattle.rules.specs.Deciding.{bothRules, bothRecords}
 
 -- a self rule applies to its target; an all rule to its target and everything below it, from where a chain of parents leads up to the target
@@ -36,18 +37,18 @@ module _ (es : List Element) (i : ℕ) (rs : List Rule) where
   First e = (k : ℕ) × Says es i rs k e × ((j : ℕ) → j < k → (f : Effect) → Says es i rs j f → ⊥)
 
   -- the effect of each combining
-  abbrev pub Chosen : ℕ → Effect → Type 0
-  -- 0, first applicable: the effect of the first rule that applies
-  Chosen zero e = First e
-  -- 1, deny overrides: deny if any applying rule denies; else permit if any permits
-  Chosen (suc zero) deny = Some deny
-  Chosen (suc zero) permit = NoRule deny × Some permit
-  -- 2, permit overrides: the same with the two exchanged
-  Chosen (suc (suc c)) permit = Some permit
-  Chosen (suc (suc c)) deny = NoRule permit × Some deny
+  abbrev pub Chosen : Combining → Effect → Type 0
+  -- first applicable: the effect of the first rule that applies
+  Chosen firstApplicable e = First e
+  -- deny overrides: deny if any applying rule denies; else permit if any permits
+  Chosen denyOverrides deny = Some deny
+  Chosen denyOverrides permit = NoRule deny × Some permit
+  -- permit overrides: the same with the two exchanged
+  Chosen permitOverrides permit = Some permit
+  Chosen permitOverrides deny = NoRule permit × Some deny
 
   -- and none where no rule applies
-  abbrev pub Published : ℕ → Decision → Type 0
+  abbrev pub Published : Combining → Decision → Type 0
   Published c Deny = Chosen c deny
   Published c Permit = Chosen c permit
   Published c None = (e : Effect) → NoRule e

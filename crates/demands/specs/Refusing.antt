@@ -11,6 +11,7 @@ use Rattle.dossier.specs.Table.{Row}
 use Rattle.dossier.specs.declared.Refusal.{Refusal}
 use Rattle.rules.specs.Rules.{rulesOf}
 use Rattle.rules.specs.RuleTable.{RuleRow}
+use Rattle.rules.specs.Combining.{lastCombining}
 use Rattle.marks.specs.Stepping.{Leaves}
 use Rattle.marks.specs.declared.Walk.{Walk}
 use Rattle.listing.specs.Back.{Gives}
@@ -56,9 +57,9 @@ noMarks d rs = row 9 1 0 ((ms : List Mark) → Gives d ms (rulesOf rs) → ⊥)
 abbrev pub noElement : List ℕ → ℕ → Refusals
 noElement d i = row 10 0 0 (records d ≤ i)
 
--- 11: combining number over 2
+-- 11: combining number over the last, 2
 abbrev pub noCombining : ℕ → Refusals
-noCombining c = row 11 0 0 (2 < c)
+noCombining c = row 11 0 0 (lastCombining < c)
 
 -- ---- of a walk step
 

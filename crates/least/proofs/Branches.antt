@@ -15,32 +15,33 @@ use Rattle.dossier.proofs.Forest.{Forest, nil, node, sizeF}
 use Rattle.dossier.proofs.Runs.{run-length, run-first, run-none, run-drop, run-map}
 use Rattle.dossier.proofs.Under.{under, size-le, under-nil, under-stop, under-node}
 use Rattle.least.specs.declared.choosing.Sums.{Sums}
+use Rattle.rules.specs.Combining.{Combining}
 use Rattle.least.specs.Inner.{gatewayOf, seenBy, elementFor, wrongCost, sums, Small, sumAt, sumsOf, plusOf, bestBy, below, branchOf}
 use Rattle.least.proofs.Minimal.{sums-most}
 use Rattle.least.proofs.Gateways.{seenAll}
 
 -- the elements from p on, as the gateway sees them
-abbrev pub from : ℕ → List ℕ → ℕ → List Element
+abbrev pub from : Combining → List ℕ → ℕ → List Element
 from c d p = run (elementFor c d) p (records d - p)
 
-abbrev pub elementsFor : ℕ → List ℕ → List Element
+abbrev pub elementsFor : Combining → List ℕ → List Element
 elementsFor c d = run (elementFor c d) 0 (records d)
 
-pub from-all : (c : ℕ) (d : List ℕ) → from c d 0 ≡ elementsFor c d
+pub from-all : (c : Combining) (d : List ℕ) → from c d 0 ≡ elementsFor c d
 from-all c d = rw sub-zero
 
 -- they are the dossier's elements as it sees them
-pub elements-seen : (c : ℕ) (d : List ℕ) → elementsFor c d ≡ seenAll c (elementsOf d)
+pub elements-seen : (c : Combining) (d : List ℕ) → elementsFor c d ≡ seenAll c (elementsOf d)
 unfolding elementsOf
 elements-seen c d = sym (run-map (seenBy c) (elementAt d) 0 (records d))
 
 -- those of them that lie below the element at `at`
-abbrev pub ahead : ℕ → List ℕ → ℕ → ℕ → Forest
+abbrev pub ahead : Combining → List ℕ → ℕ → ℕ → Forest
 ahead c d at p = under (depthAt d at) (from c d p)
 
 -- ---- what is ahead
 
-module _ (c : ℕ) (d : List ℕ) (at p : ℕ) where
+module _ (c : Combining) (d : List ℕ) (at p : ℕ) where
   ahead-end : records d ≤ p → ahead c d at p ≡ nil
   ahead-end l = ap (under (depthAt d at)) (run-none (elementFor c d) p (records d) l) ∙ under-nil (depthAt d at)
 
@@ -50,17 +51,17 @@ module _ (c : ℕ) (d : List ℕ) (at p : ℕ) where
       ∙ under-stop (depthAt d at) (elementFor c d p) (from c d (p + 1)) h
 
 -- everything below an element is there
-below-in : (c : ℕ) (d : List ℕ) (p : ℕ) → sizeF (below c d p) ≤ records d - (p + 1)
+below-in : (c : Combining) (d : List ℕ) (p : ℕ) → sizeF (below c d p) ≤ records d - (p + 1)
 below-in c d p = omega (arith, size-le (depthAt d p) (from c d (p + 1)), run-length (elementFor c d) (p + 1) (records d - (p + 1)))
 
 -- after a branch come the elements from its end on
-after-branch : (c : ℕ) (d : List ℕ) (p : ℕ) → drop (sizeF (below c d p)) (from c d (p + 1)) ≡ from c d (p + 1 + sizeF (below c d p))
+after-branch : (c : Combining) (d : List ℕ) (p : ℕ) → drop (sizeF (below c d p)) (from c d (p + 1)) ≡ from c d (p + 1 + sizeF (below c d p))
 after-branch c d p =
     let left : records d - (p + 1) - sizeF (below c d p) ≡ records d - (p + 1 + sizeF (below c d p)) = omega arith in
     run-drop (elementFor c d) (p + 1) (sizeF (below c d p)) (records d - (p + 1)) (below-in c d p)
     ∙ ap (run (elementFor c d) (p + 1 + sizeF (below c d p))) left
 
-ahead-more : (c : ℕ) (d : List ℕ) (at p : ℕ) → p < records d → depthAt d at < depthAt d p
+ahead-more : (c : Combining) (d : List ℕ) (at p : ℕ) → p < records d → depthAt d at < depthAt d p
     → ahead c d at p ≡ node (elementFor c d p) (below c d p) (ahead c d at (p + 1 + sizeF (below c d p)))
 ahead-more c d at p l h =
     ap (under (depthAt d at)) (run-first (elementFor c d) p (records d) l)
@@ -82,16 +83,16 @@ plus-at a b Permit = refl
 -- ---- the loop
 
 -- what is summed and what is ahead come to what lies below
-pub record Summed (c : ℕ) (d : List ℕ) (at p : ℕ) (s : Sums) : Type 0 where
+pub record Summed (c : Combining) (d : List ℕ) (at p : ℕ) (s : Sums) : Type 0 where
   pub each : (v : Decision) → sumAt s v + sums (gatewayOf c) wrongCost (ahead c d at p) v ≡ sums (gatewayOf c) wrongCost (below c d at) v
   pub place : p + sizeF (ahead c d at p) ≡ at + 1 + sizeF (below c d at)
   pub low : at + 1 ≤ p
   pub high : p ≤ records d
 
-pub start : (c : ℕ) (d : List ℕ) (at : ℕ) → at < records d → Summed c d at (at + 1) (record { none = 0; deny = 0; permit = 0 })
+pub start : (c : Combining) (d : List ℕ) (at : ℕ) → at < records d → Summed c d at (at + 1) (record { none = 0; deny = 0; permit = 0 })
 start c d at l = record { each = λ v. omega (arith, of-at (λ u. 0) v); place = refl; low = omega arith; high = omega arith }
 
-module _ (c : ℕ) (d : List ℕ) (at p : ℕ) (s : Sums) (h : Summed c d at p s) where
+module _ (c : Combining) (d : List ℕ) (at p : ℕ) (s : Sums) (h : Summed c d at p s) where
   pub turn : p < records d → depthAt d at < depthAt d p → Summed c d at (branchOf c d p .next) (plusOf s (branchOf c d p .sums))
   unfolding sums sizeF
   turn l deep =

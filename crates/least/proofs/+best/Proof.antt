@@ -7,6 +7,7 @@ use Rattle.dossier.specs.Bytes.{records}
 use Rattle.least.specs.declared.choosing.Sums.{Sums}
 use Rattle.least.specs.declared.Branch.{Branch}
 use Rattle.least.specs.declared.choosing.Chosen.{Chosen}
+use Rattle.rules.specs.Combining.{combiningOf}
 use Rattle.least.specs.Inner.{elementFor, plusOf, chosenOf, Planned}
 use Rattle.least.proofs.Branches.{Summed, start, turn, over-end, over-out, small}
 use Rattle.least.proofs.Plans.{planned-none, planned-more, planned-first}
@@ -37,7 +38,7 @@ abbrev claims : ℕ → best-lts.Claims
 claims t = (best-below t, best.Post, plus-reads.Asked, plus-reads.Learnt, choose-reads.Asked, choose-reads.Learnt)
 
 abbrev best-Inv-loop : best-lts.InvT-loop
-best-Inv-loop d plan₀ combining at left count depth sums₀ p₀ plan sums p = Summed combining d at p sums × Planned combining d (at + 1) p plan₀ plan
+best-Inv-loop d plan₀ combining at left count depth sums₀ p₀ plan sums p = Summed (combiningOf combining) d at p sums × Planned (combiningOf combining) d (at + 1) p plan₀ plan
 
 abbrev best-μ-loop : best-lts.MeasureT-loop
 best-μ-loop d plan₀ combining at left count depth sums₀ p₀ plan sums p = records d - p
@@ -78,7 +79,7 @@ best-best-requires t c κs =
 -- a child's branch is summed
 turned : (t : ℕ) (c : best-lts.After-best (claims t) (best-at t) best.Post best-Inv-loop best-μ-loop)
     → Summed
-    (c .before .before .before .before .before .before .before .before .args .combining)
+    (combiningOf (c .before .before .before .before .before .before .before .before .args .combining))
     (c .before .before .before .before .before .before .before .before .args .d .now)
     (c .before .before .before .before .before .before .before .before .args .at)
     (c .best .result .next)
@@ -132,8 +133,8 @@ best-returns t c =
     (λ w. over-end _ _ _ _ _ (inv .0) (w .left))
     (λ w. over-out _ _ _ _ _ (inv .0) (w .0 .taken) (w .2 .taken))
     (c .before .before .before .loop-test .came) in
-    let chosen = c .before .choose .ensures ∙ ap (chosenOf (s .args .combining) (elementFor (s .args .combining) d at .decision)) (over .0) in
-    let planned = subst (λ (n : ℕ). Planned (s .args .combining) d (at + 1) n (s .args .plan .now) (c .before .before .before .before .loop .plan)) (over .1) (inv .1) in (
+    let chosen = c .before .choose .ensures ∙ ap (chosenOf (combiningOf (s .args .combining)) (elementFor (combiningOf (s .args .combining)) d at .decision)) (over .0) in
+    let planned = subst (λ (n : ℕ). Planned (combiningOf (s .args .combining)) d (at + 1) n (s .args .plan .now) (c .before .before .before .before .loop .plan)) (over .1) (inv .1) in (
       ap₂ branch-of (ap (λ (x : Chosen). x .sums) chosen) (over .1),
       planned-first _ _ _ _ _ _ _ (omega arith) (omega arith) (ap (λ (x : Chosen). x .marks) chosen) planned,
     )
