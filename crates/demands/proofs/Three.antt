@@ -10,7 +10,7 @@ use Rattle.marks.proofs.Forests.{walk-length}
 use Rattle.listing.specs.Listing.{listOf}
 use Rattle.least.proofs.Folds.{minuses-right, first-plain}
 use Rattle.least.proofs.Gateways.{minus-listed}
-use Rattle.least.proofs.OwnMarks.{asked-few, own-list, own-verdict, own-ignore, own-list-for, own-verdict-for, own-ignore-for}
+use Rattle.least.proofs.OwnMarks.{asked-counted, own-list, own-verdict, own-ignore, own-list-for, own-verdict-for, own-ignore-for}
 use Rattle.demands.specs.Demand3.{walking, combining, Demand3}
 use Rattle.demands.proofs.Verdicts.{demand-by}
 
@@ -27,7 +27,7 @@ demand-3 = demand-by walking (record {
 pub demand-3-for : (c : Combining) → Demand3 (combining c)
 demand-3-for c = demand-by (combining c) (record {
   all = λ es ms q. run-length (λ i. decision c es i (listOf es ms)) 0 (length es);
-  accepted = asked-few c;
+  accepted = asked-counted c;
   minuses = λ d s. minus-listed c (elementsOf d) (s .order);
   lists = own-list-for c;
   judged = own-verdict-for c;
