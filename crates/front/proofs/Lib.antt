@@ -1,6 +1,3 @@
-pub mod Standing
-pub mod Decimals
-pub mod Putting
-pub mod Lines
+pub mod RuleLines
 pub mod Replies
 pub mod Program

@@ -1,11 +1,12 @@
 -- What is printed is one text, and it speaks of the whole input though only its front is kept. Assumes nothing.
 use mathlib.Core.Path.{_≡_, refl, sym, ap, ap₂, subst, _∙_}
-use Prim.Native.Nat.{ℕ, _<_}
+use Prim.Native.Nat.{ℕ, _*_, _<_}
 use native.Mathlib.Omega.{arith}
 use native.Mathlib.Decide.{decLe}
 use native.Mathlib.Nat.{lt-of-not-le}
 use mathlib.Core.List.{List}
 use lib.ListN.{length}
+use Rattle.dossier.specs.Limits.{width, mostElements}
 use Rattle.dossier.specs.Reading.{readOf}
 use Rattle.dossier.specs.declared.Reply.{Reply}
 use Rattle.dossier.specs.declared.Reply.the-variants.{Count, Refused}
@@ -14,9 +15,9 @@ use Rattle.marks.specs.Marks.{first}
 use Rattle.marks.specs.Walking.{walked}
 use Rattle.least.specs.Folding.{FoldedAfter}
 use Rattle.least.proofs.Determined.{folded-unique}
-use Rattle.front.specs.Standing.{mostBytes, Kept}
+use Rattle.programs.specs.Standing.{Kept}
+use Rattle.programs.proofs.Standing.{kept-read}
 use Rattle.front.specs.Printing.{textAfter, Printed}
-use Rattle.front.proofs.Standing.{kept-read}
 
 -- any two texts that may be printed of a dossier are equal
 pub printed-unique : (d t u : List ℕ) → Printed d t → Printed d u → t ≡ u
@@ -27,7 +28,7 @@ printed-unique d t u a b =
 -- ---- the whole input
 
 -- too many bytes are refused, and the same refusal is printed
-refused-whole : (w d t : List ℕ) → mostBytes < length w → readOf d ≡ readOf w → Printed d t → Printed w t
+refused-whole : (w d t : List ℕ) → mostElements * width < length w → readOf d ≡ readOf w → Printed d t → Printed w t
 refused-whole w d t many same p = go (readOf w) refl
   where
     go : (q : Reply) → readOf w ≡ q → Printed w t
@@ -42,8 +43,8 @@ refused-whole w d t many same p = go (readOf w) refl
         }
 
 -- what is printed of what is kept is what is printed of the whole input
-pub printed-whole : (w d t : List ℕ) → Kept w d → Printed d t → Printed w t
-printed-whole w d t kept p = elim (decLe (length w) mostBytes) [
+pub printed-whole : (w d t : List ℕ) → Kept mostElements w d → Printed d t → Printed w t
+printed-whole w d t kept p = elim (decLe (length w) (mostElements * width)) [
   | yes few ↦ subst (λ (x : List ℕ). Printed x t) (kept .same few) p
   | no other ↦ refused-whole w d t (lt-of-not-le other) (kept-read w d kept) p
 ]

@@ -6,7 +6,7 @@ use mathlib.Core.List.{List}
 use lib.ListN.{length, take, drop}
 use lib.Seq.{take-at}
 use borrow.Author.Tests.{le-ltb}
-use Rattle.dossier.specs.Limits.{width}
+use Rattle.dossier.specs.Limits.{width, mostElements}
 use Rattle.dossier.specs.Bytes.{records}
 use Rattle.dossier.specs.Replies.{roomFor, fronted}
 use Rattle.dossier.specs.Reading.{readOf}
@@ -23,11 +23,11 @@ use Rattle.marks.specs.Marks.{first}
 use Rattle.marks.specs.Walking.{walked}
 use Rattle.least.specs.Folding.{FoldedAfter, Folded}
 use Rattle.least.proofs.OwnMarks.{own-list}
-use Rattle.front.specs.Standing.{mostBytes}
+use Rattle.programs.specs.Area.{Room, Puts}
+use Rattle.programs.proofs.Putting.{puts-within, puts-front}
 use Rattle.front.specs.Printing.{rulesText, textAfter}
-use Rattle.front.specs.Inner.{Room, Puts, Areas, Short, Answered}
-use Rattle.front.proofs.Putting.{puts-within, puts-front}
-use Rattle.front.proofs.Lines.{rules-room}
+use Rattle.front.specs.Inner.{Areas, Short, Answered}
+use Rattle.front.proofs.RuleLines.{rules-room}
 
 -- ---- the lister
 
@@ -63,7 +63,7 @@ module _ {d area out : List ℕ} (short : Short d) (areas : Areas area out) wher
     number : n ≡ length (listedOf d)
     number = let e : Count n ≡ Count (length (listedOf d)) = sym q ∙ p ∙ list-counts in cc
 
-    pub part-within : n * width ≤ mostBytes
+    pub part-within : n * width ≤ mostElements * width
     part-within = omega (arith, number, short .few)
 
     part-rules : rulesOf (take (n * width) written) ≡ listedOf d

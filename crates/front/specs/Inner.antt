@@ -1,34 +1,18 @@
 -- What the functions inside the program promise each other. A reader of what it prints may skip it. Assumes nothing: these are definitions.
-use mathlib.Core.Path.{_≡_}
 use Prim.Native.Nat.{ℕ, _+_, _*_, _≤_}
 use mathlib.Core.List.{List, _++_}
 use lib.ListN.{length, take}
-use lib.Seq.{sets}
-use Rattle.dossier.specs.Limits.{mostElements}
+use Rattle.dossier.specs.Limits.{width, mostElements}
 use Rattle.dossier.specs.Elements.{effectOf}
 use Rattle.dossier.specs.Reading.{Sound}
 use Rattle.rules.specs.Rules.{reachOf}
 use Rattle.listing.specs.Area.{listedOf}
-use Rattle.front.specs.Standing.{mostBytes}
-use Rattle.front.specs.Printing.{decimal, effectWord, reachWord, refusalText, Printed}
-
--- an area has room for a text from `at` on
-pub record Room (area : List ℕ) (at : ℕ) (text : List ℕ) : Type 0 where
-  pub enough : at + length text ≤ length area
-
--- `out` is the area `was` with a text from `at` on, and `to` is the place after it
-pub record Puts (was : List ℕ) (at : ℕ) (text out : List ℕ) (to : ℕ) : Type 0 where
-  pub room : Room was at text
-  pub area : out ≡ sets was at text
-  pub place : to ≡ at + length text
+use Rattle.programs.specs.Printing.{decimal, effectWord}
+use Rattle.front.specs.Printing.{reachWord, Printed}
 
 -- the line of a rule with these numbers
 abbrev pub lineWith : ℕ → ℕ → ℕ → List ℕ
 lineWith target effect reach = decimal target ++ (effectWord (effectOf effect) ++ reachWord (reachOf reach))
-
--- the text of a refusal with these numbers
-abbrev pub refusalWith : ℕ → ℕ → ℕ → List ℕ
-refusalWith number list position = refusalText (record { number = number; list = list; position = position })
 
 -- the most bytes that are printed: a line has at most 17, and the line before them or a refusal has fewer than 80
 abbrev pub mostText : ℕ
@@ -36,7 +20,7 @@ mostText = mostElements * 17 + 80
 
 -- the areas for rules and text are large enough
 pub record Areas (rules out : List ℕ) : Type 0 where
-  pub wide : mostBytes ≤ length rules
+  pub wide : mostElements * width ≤ length rules
   pub room : mostText ≤ length out
 
 -- a dossier is sound, and its marks list at most as many rules as a dossier may have elements

@@ -1,4 +1,6 @@
 -- `answer` meets its contract: what is put is the text of the folder's reply.
+use native.Mathlib.Omega.{arith}
+use Rattle.programs.proofs.Putting.{puts-there}
 use Rattle.front.proofs.Replies.{folded-short, answered}
 use borrow.Author.Needs.{needs}
 use Rattle.front.proofs.answer.Statement.{statement}
@@ -45,7 +47,10 @@ same-length-5 c = search needs
 returns-2 : tie.Need-returns-2
 returns-2 c =
     let refused = c .before .before .before .before .before in
-    answered _ _ _ (refused .before .before .before .before .fold .ensures) _ (refused .f .given .1) (c .before .before .put-refusal .ensures)
+    let start = refused .before .before .before .before .before .before .before .before .before in
+    let put = c .before .before .put-refusal .ensures in
+    let puts = puts-there (record { enough = omega (arith, put .1 .1, start .pre .room) }) (put .0, put .1 .0) in
+    answered _ _ _ (refused .before .before .before .before .fold .ensures) _ (refused .f .given .1) puts
 
 pub answer-spec : {M : Type 1} → statement M
 answer-spec =

@@ -1,0 +1,4 @@
+pub mod Standing
+pub mod Decimals
+pub mod Putting
+pub mod Words

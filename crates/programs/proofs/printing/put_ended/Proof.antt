@@ -1,0 +1,35 @@
+-- `printing::put_ended` meets its contract: the end follows the number.
+use mathlib.Core.Path.{refl}
+use native.Mathlib.Omega.{arith}
+use Rattle.programs.proofs.Putting.{puts-there, first-room, left-first, left-last, last-room}
+use borrow.Author.Needs.{needs}
+use Rattle.programs.proofs.printing.put_ended.Statement.{statement}
+use Rattle.programs.proofs.printing.put_ended.Tie as tie
+
+put-number-requires : tie.Need-put-number-requires
+put-number-requires c κs = search needs
+
+slice-write-out : tie.Need-slice-write-out
+slice-write-out c =
+    let start = c .before .before .before .before .before in
+    let puts = puts-there (first-room _ (start .pre)) (c .before .before .put-number .ensures) in
+    omega (arith, last-room (left-first (start .pre) puts) .enough)
+
+add-result : tie.Need-add-result
+add-result c =
+    let start = c .before .before .before .before .before in
+    let puts = puts-there (first-room _ (start .pre)) (c .before .before .put-number .ensures) in
+    omega (arith, last-room (left-first (start .pre) puts) .enough)
+
+same-length : tie.Need-same-length
+same-length c = search needs
+
+returns : tie.Need-returns
+returns c =
+    let start = c .before .before .before .before .before in
+    let left = left-first (start .pre) (puts-there (first-room _ (start .pre)) (c .before .before .put-number .ensures)) in
+    left-last left (record { room = last-room left; area = refl; place = refl })
+
+pub put-ended-spec : {M : Type 1} → statement M
+put-ended-spec =
+    tie.close (tie.spec put-number-requires slice-write-out add-result same-length returns)

@@ -1,0 +1,3 @@
+pub mod Standing
+pub mod Area
+pub mod Printing
