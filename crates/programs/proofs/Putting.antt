@@ -78,10 +78,6 @@ module _ {was : List ℕ} {at : ℕ} {whole out : List ℕ} {to : ℕ} where
       → (next ≡ placeAfter out to a) × (new ≡ areaAfter out to a) → Left was at whole new next b
   left-next a {b} left e = left-more left (puts-there (left-room b left) e)
 
-  pub left-end : {a new : List ℕ} {next : ℕ} → Left was at whole out to a
-      → (next ≡ placeAfter out to a) × (new ≡ areaAfter out to a) → Puts was at whole new next
-  left-end left e = left-last left (puts-there (last-room left) e)
-
   pub left-none : Left was at whole out to [] → Puts was at whole out to
   left-none left = record { room = left .room; area = left .area; place = omega (arith, left .place) }
 
