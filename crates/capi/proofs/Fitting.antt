@@ -11,14 +11,14 @@ use Rattle.dossier.specs.Limits.{width, deepest, mostElements}
 use Rattle.dossier.specs.Elements.{Mark, marksOf}
 use Rattle.dossier.specs.Bytes.{records, elementsOf}
 use Rattle.dossier.specs.Replies.{refusal, andThen, roomFor}
-use Rattle.dossier.specs.Reading.{faultOf, readOf, Sound}
+use Rattle.dossier.specs.Reading.{Fields, fieldsAt, readOf, Sound}
 use Rattle.dossier.specs.Table.{Row, row-1, row-2, row-3, row-4, row-5, row-6}
 use Rattle.dossier.specs.declared.Decision.{Decision}
 use Rattle.dossier.specs.declared.Refusal.{Refusal}
 use Rattle.dossier.specs.declared.Reply.{Reply}
 use Rattle.dossier.specs.declared.Reply.the-variants.{Count, Refused}
 use Rattle.dossier.proofs.Sounds.{counted-sound, counted}
-use Rattle.dossier.proofs.Rows.{refused-row}
+use Rattle.dossier.proofs.Rows.{Fault, nothing, four, five, six, fault, refused-row}
 use Rattle.rules.specs.ReadingRules.{readRulesOf}
 use Rattle.rules.specs.RuleTable as rule
 use Rattle.rules.specs.Combining.{Combining, firstApplicable, lastCombining, combiningOf}
@@ -117,18 +117,11 @@ decide-fits d house recipient c i = answered-fits (askedOf d house recipient c i
 
 -- ---- the walk
 
-fault-small : (low high depth decision mark spare : ℕ) → faultOf low high depth decision mark spare < 256
-unfolding faultOf
-fault-small low high depth decision mark spare = go (ltb deepest depth) (ltb depth low) (ltb high depth) (ltb 1 decision) (ltb 3 mark) (ltb 0 spare)
-  where
-    go : (a b c d e f : Bool) → cond a 5 (cond b 4 (cond c 4 (cond d 6 (cond e 6 (cond f 6 0))))) < 256
-    go true b c d e f = omega arith
-    go false true c d e f = omega arith
-    go false false true d e f = omega arith
-    go false false false true e f = omega arith
-    go false false false false true f = omega arith
-    go false false false false false true = omega arith
-    go false false false false false false = omega arith
+fault-small : (taken last : ℕ) (f : Fields) {n : ℕ} → Fault taken last f n → n < 256
+fault-small taken last f (nothing g) = omega arith
+fault-small taken last f (four g o) = omega arith
+fault-small taken last f (five t) = omega arith
+fault-small taken last f (six g o b) = omega arith
 
 take-fits : (w : Walk) (r : List ℕ) → FitsAnswer (takeOf w r .answer)
 unfolding takeOf fieldsStep refusedStep acceptedStep
@@ -139,7 +132,7 @@ take-fits w r = go (eqb (length r) width) (leb mostElements (w .taken)) (eqb (fa
     go false full good e = small (omega arith) (omega arith) (omega arith)
     go true true good e = small (omega arith) (omega arith) (omega arith)
     go true false true e = tt
-    go true false false e = small (fault-small _ _ _ _ _ _) (omega arith) (omega (arith, leb-false mostElements (w .taken) e))
+    go true false false e = small (fault-small _ _ _ (fault (w .taken) (w .depth) (fieldsAt r 0))) (omega arith) (omega (arith, leb-false mostElements (w .taken) e))
 
 pub step-fits : (w : Walk) (r : List ℕ) (s : Stepped) → Steps w r s → FitsAnswer (s .answer)
 unfolding refusedStep

@@ -10,10 +10,10 @@ use lib.ListN.{length}
 use lib.Dec.{eqb}
 use borrow.Author.Tests.{eqb-true}
 use Rattle.dossier.specs.Elements.{Mark, Element, markNumber, markOf, decisionNumber, decisionOf}
-use Rattle.dossier.specs.Bytes.{dossierBytes}
+use Rattle.dossier.specs.Bytes.{depthAt, dossierBytes}
 use Rattle.dossier.specs.Order.{Ordered}
 use Rattle.dossier.specs.Replies.{refusal}
-use Rattle.dossier.specs.Reading.{lowAt, highAt, faultOf, faultAt, firstFault, readOf}
+use Rattle.dossier.specs.Reading.{lowAfter, highAfter, faultOf, faultAt, firstFault, readOf}
 use Rattle.dossier.specs.declared.Reply.{Reply}
 use Rattle.dossier.specs.declared.Reply.the-variants.{Count, Refused}
 use Rattle.dossier.proofs.Parse.{parse, front, back}
@@ -119,5 +119,5 @@ taken (some a) e = a
 taken none e = let z : _≡_ {A = ℕ} 0 1 = cc in let y : ⊥ = omega arith in absurd y
 
 pub twelve : All table
-unfolding tested-all bind readOf firstFault faultAt faultOf lowAt highAt parse greedy choose front back better sums verdictOf differ eq-decision decLe listOf branches branchesRules childrenRules others
+unfolding tested-all bind readOf firstFault faultAt faultOf lowAfter highAfter depthAt parse greedy choose front back better sums verdictOf differ eq-decision decLe listOf branches branchesRules childrenRules others
 twelve = taken (tested-all table) refl

@@ -1,13 +1,14 @@
 -- The refusals of a request, one condition after the other in the order of the table. Assumes nothing: these are definitions.
 use mathlib.Core.Path.{_≡_}
-use mathlib.Core.Logic.{_≢_, _⊎_}
-use Prim.Native.Nat.{ℕ, zero, suc, _+_, _*_, _≤_, _<_}
+use mathlib.Core.Logic.{_≢_}
+use Prim.Native.Nat.{ℕ, _*_, _≤_, _<_}
 use mathlib.Core.List.{List}
-use lib.ListN.{length, getD}
-use Rattle.dossier.specs.Limits.{width, deepest, mostElements}
+use lib.ListN.{length}
+use Rattle.dossier.specs.Limits.{width, mostElements}
 use Rattle.dossier.specs.Elements.{Mark}
 use Rattle.dossier.specs.Bytes.{records}
-use Rattle.dossier.specs.Table.{Row}
+use Rattle.dossier.specs.Reading.{fieldsAt}
+use Rattle.dossier.specs.Table.{TooDeep, OutOfOrder, BadField, Row}
 use Rattle.dossier.specs.declared.Refusal.{Refusal}
 use Rattle.rules.specs.Rules.{rulesOf}
 use Rattle.rules.specs.RuleTable.{RuleRow}
@@ -75,17 +76,12 @@ notOneRecord r = row 2 0 0 (length r ≢ width)
 abbrev pub allTaken : Walk → Refusals
 allTaken w = row 3 0 0 (mostElements ≤ w .taken)
 
--- 5, 4 and 6: the position is the number of records taken so far
+-- 5, 4 and 6: the position is the number of records taken so far. A record alone is record 0
 abbrev pub tooDeep : Walk → List ℕ → Refusals
-tooDeep w r = row 5 0 (w .taken) (deepest < getD r 0 0)
-
--- after `taken` records, the last of this depth, the next depth breaks the order
-abbrev pub Breaks : ℕ → ℕ → ℕ → Type 0
-Breaks zero last next = next ≢ 0
-Breaks (suc taken) last next = (next < 1) ⊎ (last + 1 < next)
+tooDeep w r = row 5 0 (w .taken) (TooDeep (fieldsAt r 0))
 
 abbrev pub outOfOrder : Walk → List ℕ → Refusals
-outOfOrder w r = row 4 0 (w .taken) (Breaks (w .taken) (w .depth) (getD r 0 0))
+outOfOrder w r = row 4 0 (w .taken) (OutOfOrder (w .taken) (w .depth) (fieldsAt r 0))
 
 abbrev pub badField : Walk → List ℕ → Refusals
-badField w r = row 6 0 (w .taken) ((1 < getD r 1 0) ⊎ (3 < getD r 2 0) ⊎ (getD r 3 0 ≢ 0))
+badField w r = row 6 0 (w .taken) (BadField (fieldsAt r 0))

@@ -12,7 +12,7 @@ use Rattle.dossier.specs.Limits.{width}
 use Rattle.dossier.specs.Bytes.{records, recordAt, joined}
 use Rattle.view.specs.Inner.{Memory, atFirst, shows, after, shownFrom, shownOf, bytesOf, bytesIf}
 use Rattle.dossier.proofs.Stores.{sets-more}
-use Rattle.view.proofs.Writing.{record-long}
+use Rattle.dossier.proofs.Alone.{record-long}
 
 -- what is left to show from record i on
 unfoldable pub rest : Memory → List ℕ → ℕ → List (List ℕ)

@@ -8,8 +8,8 @@ use mathlib.Core.List.{List, [], _∷_, map}
 use lib.ListN.{length, getD}
 use Rattle.dossier.specs.Bytes.{records, byteOf, recordAt, depthAt, elementAt}
 use Rattle.dossier.specs.Order.{Follows, Ordered}
-use Rattle.dossier.specs.Reading.{lowAt, highAt, Sound}
-use Rattle.dossier.proofs.Sounds.{Free, sound-free}
+use Rattle.dossier.specs.Reading.{lowAfter, highAfter, lastBefore, Sound}
+use Rattle.dossier.proofs.Sounds.{FreeAt, sound-free}
 use Rattle.view.specs.Inner.{Memory, atFirst, shows, after, shownFrom}
 use Rattle.view.proofs.Remembering.{below-hidden, lets-in, keeps-out, Turn, passed, let-in, kept-out, turn}
 
@@ -44,7 +44,7 @@ places-there m d i (suc n) most l k h = go (shows m d i) _ (places-there (after 
 
 -- what can be shown at record i is at most one deeper than j
 abbrev Near : Memory → List ℕ → ℕ → ℕ → Type 0
-Near m d i j = (k : ℕ) → k ≤ m .limit → k ≤ highAt d i → k ≤ suc j
+Near m d i j = (k : ℕ) → k ≤ m .limit → k ≤ highAfter i (lastBefore d i) → k ≤ suc j
 
 -- one record more
 by : (m : Memory) (d : List ℕ) (i n : ℕ) (P : List ℕ → Type 0) {b : Bool} {m′ : Memory} → (shows m d i ≡ b) × (after m d i ≡ m′)
@@ -53,11 +53,11 @@ unfolding places
 by m d i n P e p = rw (e .0, e .1) p
 
 places-follow : (m : Memory) (d : List ℕ) (i n j : ℕ) → Sound d → suc i + n ≤ records d → Near m d (suc i) j → Follows j (map (elementAt d) (places m d (suc i) n))
-unfolding places lowAt highAt
+unfolding places lowAfter highAfter
 places-follow m d i zero j s l near = tt
 places-follow m d i (suc n) j s l near = go (turn m d (suc i)) (λ m′ j′ near′. places-follow m′ d (suc i) n j′ s (omega arith) near′)
   where
-    at : Free (lowAt (suc i)) (highAt d (suc i)) (depthAt d (suc i)) (byteOf d (suc i) 1) (byteOf d (suc i) 2) (byteOf d (suc i) 3)
+    at : FreeAt d (suc i)
     at = sound-free d s (suc i) (omega arith)
 
     go : Turn m d (suc i) → ((m′ : Memory) (j′ : ℕ) → Near m′ d (suc (suc i)) j′ → Follows j′ (map (elementAt d) (places m′ d (suc (suc i)) n)))
@@ -74,7 +74,7 @@ places-follow m d i (suc n) j s l near = go (turn m d (suc i)) (λ m′ j′ nea
 
 -- under a hidden root nothing is shown
 none-follow : (m : Memory) (d : List ℕ) (i n : ℕ) → Sound d → suc i + n ≤ records d → m .limit ≡ 0 → places m d (suc i) n ≡ []
-unfolding places lowAt
+unfolding places lowAfter
 none-follow m d i zero s l e = refl
 none-follow m d i (suc n) s l e =
     by m d (suc i) n (λ ps. ps ≡ []) (below-hidden m d (suc i) (omega (arith, sound-free d s (suc i) (omega arith) .least)))
@@ -82,7 +82,7 @@ none-follow m d i (suc n) s l e =
 
 -- nothing is shown, or the depths are in order
 pub places-ordered : (d : List ℕ) (n : ℕ) → Sound d → n ≤ records d → (places atFirst d 0 n ≡ []) ⊎ Ordered (map (elementAt d) (places atFirst d 0 n))
-unfolding places highAt
+unfolding places highAfter
 places-ordered d zero s l = inl refl
 places-ordered d (suc n) s l = go (turn atFirst d 0)
   where

@@ -1,5 +1,5 @@
 -- What one record does to a pass, case by case: it lies below a hidden one, it is permitted, or it is not. Assumes nothing.
-use mathlib.Core.Path.{_≡_, refl}
+use mathlib.Core.Path.{_≡_, refl, sym, ap, ap₂, _∙_}
 use Prim.Native.Nat.{ℕ, _≤_, _<_}
 use native.Mathlib.Decide.{decLe}
 use native.Mathlib.Omega.{arith}
@@ -42,3 +42,27 @@ module _ (m : Memory) (d : List ℕ) (i : ℕ) where
       answered : depthAt d i ≤ m .limit → (b : Bool) → eqb answerNumber 1 ≡ b → Turn
       answered h true q = let-in h (eqb-true answerNumber 1 q)
       answered h false q = kept-out h (eqb-false answerNumber 1 q)
+
+-- ---- the same once the depth is read and the walk has answered
+
+module _ (m : Memory) (d : List ℕ) (i k : ℕ) (read : k ≡ depthAt d i) where
+  pub reads-below : m .limit < k → (false ≡ shows m d i) × (m ≡ after m d i)
+  reads-below l = let e = below-hidden m d i (omega (arith, read)) in (sym (e .0), sym (e .1))
+
+  module _ (r : ℕ) (h : List ℕ) (answers : r ≡ lentAnswer (m .handed) k (byteOf d i 1) (byteOf d i 2))
+      (hands : h ≡ lentAfter (m .handed) k (byteOf d i 1) (byteOf d i 2)) (l : k ≤ m .limit) where
+    number : r ≡ answerNumber m d i
+    number = answers ∙ ap (λ (x : ℕ). lentAnswer (m .handed) x (byteOf d i 1) (byteOf d i 2)) read
+
+    handed : h ≡ handedOn m d i
+    handed = hands ∙ ap (λ (x : ℕ). lentAfter (m .handed) x (byteOf d i 1) (byteOf d i 2)) read
+
+    pub reads-permit : r ≡ 1 → (true ≡ shows m d i) × (memory h noLimit ≡ after m d i)
+    reads-permit q =
+        let e = lets-in m d i (omega (arith, read)) (sym number ∙ q) in
+        (sym (e .0), ap (λ (x : List ℕ). memory x noLimit) handed ∙ sym (e .1))
+
+    pub reads-other : (r ≡ 1 → ⊥) → (false ≡ shows m d i) × (memory h k ≡ after m d i)
+    reads-other q =
+        let e = keeps-out m d i (omega (arith, read)) (λ p. q (number ∙ p)) in
+        (sym (e .0), ap₂ (λ (x : List ℕ) (y : ℕ). memory x y) handed read ∙ sym (e .1))

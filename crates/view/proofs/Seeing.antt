@@ -9,7 +9,7 @@ use lib.Seq.{take-take, getD-take, length-take-le}
 use Rattle.dossier.specs.Limits.{deepest}
 use Rattle.dossier.specs.Elements.{decisionNumber}
 use Rattle.dossier.specs.Bytes.{records, byteOf, depthAt, elementAt}
-use Rattle.dossier.specs.Reading.{highAt, Sound}
+use Rattle.dossier.specs.Reading.{highAfter, lastBefore, Sound}
 use Rattle.dossier.specs.declared.Decision.{Decision}
 use Rattle.dossier.specs.declared.Decision.the-variants.{None}
 use Rattle.dossier.proofs.Sounds.{sound-free}
@@ -22,11 +22,11 @@ use Rattle.view.proofs.Remembering.{answerNumber, handedOn}
 
 pub record Sees (d : List ℕ) (i : ℕ) (m : Memory) (st : List Decision) : Type 0 where
   pub long : length (m .handed) ≡ suc deepest
-  pub opened : length st ≡ highAt d i
+  pub opened : length st ≡ highAfter i (lastBefore d i)
   pub holds : (k : ℕ) → k < m .limit → k < length st → getD (m .handed) k 2 ≡ decisionNumber (getD st k None)
 
 pub sees-first : (d : List ℕ) → Sees d 0 atFirst []
-unfolding highAt
+unfolding highAfter
 sees-first d = record { long = refl; opened = refl; holds = λ k a b. absurd (omega arith) }
 
 module _ (d : List ℕ) (i : ℕ) {m : Memory} {st : List Decision} (at : Sees d i m st) (s : Sound d) (l : i < records d) where
@@ -43,8 +43,8 @@ module _ (d : List ℕ) (i : ℕ) {m : Memory} {st : List Decision} (at : Sees d
   under : depthAt d i ≤ length st
   under = omega (arith, sound-free d s i l .most, at .opened)
 
-  opened-next : length next ≡ highAt d (suc i)
-  unfolding highAt
+  opened-next : length next ≡ highAfter (suc i) (lastBefore d (suc i))
+  unfolding highAfter
   opened-next = close-length (depthAt d i) st hand under ∙ sym (add-one (depthAt d i))
 
   -- less deep ones hand down what they did

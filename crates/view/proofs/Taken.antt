@@ -9,6 +9,7 @@ use Rattle.dossier.specs.Limits.{width, mostElements}
 use Rattle.dossier.specs.Bytes.{records, byteOf, run, recordAt, joined, depthAt, elementAt, elementsOf}
 use Rattle.dossier.specs.Order.{Ordered}
 use Rattle.dossier.specs.Reading.{Sound}
+use Rattle.dossier.proofs.Laws.{depth-byte}
 use Rattle.dossier.proofs.Runs.{run-at, run-same, run-map}
 use Rattle.dossier.proofs.RoundTrip.{length-joined, records-joined, byte-joined, record-bytes, run-all}
 
@@ -33,7 +34,9 @@ module _ (d ps : List ℕ) (there : There d ps) (s : Sound d) where
       byte-joined (bytesAt d) (λ p. refl) ps i k 0 l h ∙ run-at (byteOf d (getD ps i 0)) 0 width k 0 h ∙ ap (byteOf d (getD ps i 0)) (zero-add k)
 
   taken-depth : (i : ℕ) → i < length ps → depthAt taken i ≡ depthAt d (getD ps i 0)
-  taken-depth i l = simp add-zero at (taken-byte i 0 l (omega arith))
+  taken-depth i l =
+      let first : getD taken (i * width) 0 ≡ getD d (getD ps i 0 * width) 0 = simp add-zero at (taken-byte i 0 l (omega arith)) in
+      depth-byte taken i (rw (records-joined (bytesAt d) (λ p. refl) ps) l) ∙ first ∙ sym (depth-byte d (getD ps i 0) (there i l))
 
   taken-element : (i : ℕ) → i < length ps → elementAt taken i ≡ elementAt d (getD ps i 0)
   taken-element i l =

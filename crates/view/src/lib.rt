@@ -21,7 +21,7 @@ fn shown(d: &[u8], i: usize, handed: &mut [u8], limit: &mut usize) -> bool
     ensures { λ r. ⌜ (r ≡ shows (memory (now (handed .entry)) (now (limit .entry))) (now (d .entry)) i) × (memory (now (handed .exit)) (now (limit .exit)) ≡ after (memory (now (handed .entry)) (now (limit .entry))) (now (d .entry)) i) ⌝ }
 {
     let at = i * WIDTH;
-    let depth = d[at] as usize;
+    let depth = dossier::depth(d, i);
     if depth > *limit {
         return false;
     }

@@ -1,7 +1,8 @@
 -- `least::best` meets its contract. The invariant: what is summed and what is ahead come to what lies below, and the plan holds the choices of the branches passed. Assumes nothing.
-use mathlib.Core.Path.{ap, ap₂, subst, _∙_}
-use Prim.Native.Nat.{_+_, _-_}
+use mathlib.Core.Path.{_≡_, ap, ap₂, subst, _∙_}
+use Prim.Native.Nat.{ℕ, _+_, _-_, _≤_, _<_}
 use native.Mathlib.Omega.{arith}
+use borrow.Author.Needs.{needs}
 use mathlib.Core.Logic.{⊎-elim}
 use Rattle.dossier.specs.Bytes.{records}
 use Rattle.least.specs.declared.choosing.Sums.{Sums}
@@ -11,16 +12,23 @@ use Rattle.rules.specs.Combining.{combiningOf}
 use Rattle.least.specs.Inner.{elementFor, plusOf, chosenOf, Planned}
 use Rattle.least.proofs.Branches.{Summed, start, turn, over-end, over-out, small}
 use Rattle.least.proofs.Plans.{planned-none, planned-more, planned-first}
-use Prim.Native.Nat.{ℕ, _<_}
 use borrow.Fn.Kinds.{In}
 use borrow.Fn.PlainCycle.{Measures, is, falls, and}
 use Rattle.least.proofs.best.Reads as best
 use Rattle.least.proofs.best.Kinds as best-kinds
 use Rattle.least.proofs.+best.Lts-best as best-lts
+use Rattle.dossier.proofs.depth.Reads as depth-reads
 use Rattle.least.proofs.choosing.choose.Reads as choose-reads
 use Rattle.least.proofs.choosing.plus.Reads as plus-reads
 use Rattle.least.proofs.+best.{statement}
 use Rattle.least.proofs.+best.Tie.{close}
+
+-- two depths, once they are read
+deeper : {x y k l : ℕ} → x ≡ k → y ≡ l → x < y → k < l
+deeper p q h = omega arith
+
+no-deeper : {x y k l : ℕ} → x ≡ k → y ≡ l → y ≤ x → l ≤ k
+no-deeper p q h = omega arith
 
 abbrev branch-of : Sums → ℕ → Branch
 branch-of s n = record { sums = s; next = n }
@@ -35,7 +43,7 @@ abbrev best-below : ℕ → In 2 best-kinds.ps
 best-below t = and 2 best-kinds.ps (falls 2 best-kinds.ps _<_ μ-best t) best.Pre
 
 abbrev claims : ℕ → best-lts.Claims
-claims t = (best-below t, best.Post, plus-reads.Asked, plus-reads.Learnt, choose-reads.Asked, choose-reads.Learnt)
+claims t = (depth-reads.Asked, depth-reads.Learnt, best-below t, best.Post, plus-reads.Asked, plus-reads.Learnt, choose-reads.Asked, choose-reads.Learnt)
 
 abbrev best-Inv-loop : best-lts.InvT-loop
 best-Inv-loop d plan₀ combining at left count depth sums₀ p₀ plan sums p = Summed (combiningOf combining) d at p sums × Planned (combiningOf combining) d (at + 1) p plan₀ plan
@@ -43,11 +51,8 @@ best-Inv-loop d plan₀ combining at left count depth sums₀ p₀ plan sums p =
 abbrev best-μ-loop : best-lts.MeasureT-loop
 best-μ-loop d plan₀ combining at left count depth sums₀ p₀ plan sums p = records d - p
 
-best-mul-depth : (t : ℕ) → best-lts.Need-mul-depth (claims t) (best-at t) best.Post best-Inv-loop best-μ-loop
-best-mul-depth t c = omega arith
-
-best-shared-slice-read-depth : (t : ℕ) → best-lts.Need-shared-slice-read-depth (claims t) (best-at t) best.Post best-Inv-loop best-μ-loop
-best-shared-slice-read-depth t c = omega arith
+best-depth-requires : (t : ℕ) → best-lts.Need-depth-requires (claims t) (best-at t) best.Post best-Inv-loop best-μ-loop
+best-depth-requires t c κs = search needs
 
 best-add-p : (t : ℕ) → best-lts.Need-add-p (claims t) (best-at t) best.Post best-Inv-loop best-μ-loop
 best-add-p t c = omega arith
@@ -55,11 +60,8 @@ best-add-p t c = omega arith
 best-loop-holds : (t : ℕ) → best-lts.Need-loop-holds (claims t) (best-at t) best.Post best-Inv-loop best-μ-loop
 best-loop-holds t c = (start _ _ _ (c .before .before .pre .1 .there), planned-none _ _ _ _)
 
-best-mul-if1 : (t : ℕ) → best-lts.Need-mul-if1 (claims t) (best-at t) best.Post best-Inv-loop best-μ-loop
-best-mul-if1 t c = omega arith
-
-best-shared-slice-read-if1 : (t : ℕ) → best-lts.Need-shared-slice-read-if1 (claims t) (best-at t) best.Post best-Inv-loop best-μ-loop
-best-shared-slice-read-if1 t c = omega arith
+best-depth-requires-2 : (t : ℕ) → best-lts.Need-depth-requires-2 (claims t) (best-at t) best.Post best-Inv-loop best-μ-loop
+best-depth-requires-2 t c κs = search needs
 
 best-sub-best : (t : ℕ) → best-lts.Need-sub-best (claims t) (best-at t) best.Post best-Inv-loop best-μ-loop
 best-sub-best t c =
@@ -71,7 +73,7 @@ best-best-requires t c κs =
     let s = c .before .before .before .before .before .before .before in
     let ready = s .pre .1 in
     let there = c .before .before .before .loop-test .taken in
-    let deep = c .before .if1 .left in
+    let deep = deeper (c .before .before .before .before .before .depth .ensures) (c .before .before .depth2 .ensures) (c .before .if1 .left) in
     let shallow = ready .sound .shallow (s .args .at) (ready .there) in
     let kept = c .before .before .before .before .loop .inv .1 .long in
     (omega arith, record { sound = ready .sound; there = there; enough = omega arith; room = omega arith })
@@ -86,7 +88,8 @@ turned : (t : ℕ) (c : best-lts.After-best (claims t) (best-at t) best.Post bes
     (plusOf (c .before .before .before .before .before .loop .sums) (c .best .result .sums))
 turned t c =
     rw (c .best .ensures .0)
-    (turn _ _ _ _ _ (c .before .before .before .before .before .loop .inv .0) (c .before .before .before .before .loop-test .taken) (c .before .before .if1 .left))
+    (turn _ _ _ _ _ (c .before .before .before .before .before .loop .inv .0) (c .before .before .before .before .loop-test .taken)
+    (deeper (c .before .before .before .before .before .before .depth .ensures) (c .before .before .before .depth2 .ensures) (c .before .before .if1 .left)))
 
 best-plus-requires : (t : ℕ) → best-lts.Need-plus-requires (claims t) (best-at t) best.Post best-Inv-loop best-μ-loop
 best-plus-requires t c κs =
@@ -131,7 +134,7 @@ best-returns t c =
     let inv = c .before .before .before .before .loop .inv in
     let over = ⊎-elim
     (λ w. over-end _ _ _ _ _ (inv .0) (w .left))
-    (λ w. over-out _ _ _ _ _ (inv .0) (w .0 .taken) (w .2 .taken))
+    (λ w. over-out _ _ _ _ _ (inv .0) (w .0 .taken) (no-deeper (c .before .before .before .before .before .depth .ensures) (w .1 .ensures) (w .2 .taken)))
     (c .before .before .before .loop-test .came) in
     let chosen = c .before .choose .ensures ∙ ap (chosenOf (combiningOf (s .args .combining)) (elementFor (combiningOf (s .args .combining)) d at .decision)) (over .0) in
     let planned = subst (λ (n : ℕ). Planned (combiningOf (s .args .combining)) d (at + 1) n (s .args .plan .now) (c .before .before .before .before .loop .plan)) (over .1) (inv .1) in (
@@ -145,12 +148,10 @@ pub +best-spec : {M : Type 1} → statement M
     best.Post
     best-Inv-loop
     best-μ-loop
-    (best-mul-depth t)
-    (best-shared-slice-read-depth t)
+    (best-depth-requires t)
     (best-add-p t)
     (best-loop-holds t)
-    (best-mul-if1 t)
-    (best-shared-slice-read-if1 t)
+    (best-depth-requires-2 t)
     (best-sub-best t)
     (best-best-requires t)
     (best-plus-requires t)

@@ -1,0 +1,33 @@
+-- A record by itself is record 0 of its own bytes, and has the fields that it has where it stands. Assumes nothing.
+use mathlib.Core.Path.{_≡_, refl, sym, ap, _∙_}
+use Prim.Native.Nat.{ℕ, _+_, _*_, _<_}
+use native.Mathlib.Nat.{add-zero}
+use native.Mathlib.Omega.{arith}
+use mathlib.Core.List.{List}
+use lib.ListN.{length, getD, drop, length-drop}
+use lib.Seq.{length-take-le, getD-take, getD-drop}
+use Rattle.dossier.specs.Limits.{width}
+use Rattle.dossier.specs.Elements.{Element, effectNumber, markNumber}
+use Rattle.dossier.specs.Bytes.{records, byteOf, recordAt, depthAt, elementBytes}
+use Rattle.dossier.specs.Reading.{Fields, fieldsAt}
+use Rattle.dossier.proofs.Laws.{depth-byte}
+
+module _ (d : List ℕ) (i : ℕ) (there : i < records d) where
+  pub record-long : length (recordAt d i) ≡ width
+  record-long = length-take-le width (drop (i * width) d) (omega (arith, length-drop (i * width) d))
+
+  record-byte : (k : ℕ) → k < width → getD (recordAt d i) k 0 ≡ byteOf d i k
+  record-byte k l = getD-take width (drop (i * width) d) k 0 l ∙ getD-drop (i * width) d k 0
+
+  pub record-fields : fieldsAt (recordAt d i) 0 ≡ fieldsAt d i
+  record-fields =
+      let depth : depthAt (recordAt d i) 0 ≡ depthAt d i =
+      depth-byte (recordAt d i) 0 (omega (arith, record-long))
+      ∙ record-byte 0 (omega arith) ∙ ap (λ (n : ℕ). getD d n 0) (add-zero (i * width)) ∙ sym (depth-byte d i there) in
+      rw (depth, record-byte 1 (omega arith), record-byte 2 (omega arith), record-byte 3 (omega arith))
+
+-- the record that an element is written as
+pub element-fields : (e : Element)
+    → fieldsAt (elementBytes e) 0 ≡ record { depth = e .depth; decision = effectNumber (e .decision); mark = markNumber (e .mark); spare = 0 }
+unfolding depthAt
+element-fields e = refl
