@@ -1,5 +1,5 @@
 -- Every reply that a promise allows fits its number, so that packing loses nothing. Assumes nothing.
-use mathlib.Core.Path.{_≡_, refl}
+use mathlib.Core.Path.{_≡_, refl, subst}
 use mathlib.Core.Bool.{Bool, true, false, cond}
 use Prim.Native.Nat.{ℕ, _*_, _≤_, _<_}
 use native.Mathlib.Omega.{arith}
@@ -7,7 +7,7 @@ use mathlib.Core.List.{List}
 use lib.ListN.{length}
 use lib.Dec.{ltb, leb, eqb}
 use borrow.Author.Tests.{leb-false}
-use Rattle.dossier.specs.Limits.{width, deepest, mostElements}
+use Rattle.dossier.specs.Limits.{width, mostElements}
 use Rattle.dossier.specs.Elements.{Mark, marksOf}
 use Rattle.dossier.specs.Bytes.{records, elementsOf}
 use Rattle.dossier.specs.Replies.{refusal, andThen, roomFor}
@@ -17,6 +17,7 @@ use Rattle.dossier.specs.declared.Decision.{Decision}
 use Rattle.dossier.specs.declared.Refusal.{Refusal}
 use Rattle.dossier.specs.declared.Reply.{Reply}
 use Rattle.dossier.specs.declared.Reply.the-variants.{Count, Refused}
+use Rattle.dossier.proofs.Orders.{after-all}
 use Rattle.dossier.proofs.Sounds.{counted-sound, counted}
 use Rattle.dossier.proofs.Rows.{Fault, nothing, four, five, six, fault, refused-row}
 use Rattle.rules.specs.ReadingRules.{readRulesOf}
@@ -30,13 +31,13 @@ use Rattle.marks.specs.declared.Stepped.{Stepped}
 use Rattle.marks.proofs.Takes.{faultNext, takenStep}
 use Rattle.marks.proofs.Determined.{leaves?}
 use Rattle.listing.specs.Area.{listedOf, listReply}
-use Rattle.listing.specs.Back.{Told, marked, none, BackAfter, Back}
+use Rattle.listing.specs.Back.{Told, marked, none, Back}
 use Rattle.listing.proofs.Costs.{elements-length, listed-most}
 use Rattle.marks.specs.Marks.{first}
 use Rattle.marks.specs.Walking.{walked}
-use Rattle.least.specs.Least.{Answers, listed, count, Least}
-use Rattle.least.specs.Folding.{FoldedAfter, Folded, askedFor, FoldedFor}
-use Rattle.least.specs.Judging.{Holds, JudgedAfter, Judged, JudgedFor}
+use Rattle.least.specs.Least.{Answers, byRules, count, Least}
+use Rattle.least.specs.Folding.{Folds, FoldedAfter, Folded, askedFor, FoldedFor}
+use Rattle.least.specs.Judging.{Holds, Reports, JudgedAfter, Judged, JudgedFor}
 use Rattle.least.proofs.Matching.{least-as}
 use Rattle.least.proofs.Gateways.{first-matches}
 use Rattle.least.proofs.Replies.{asked-sound}
@@ -45,16 +46,16 @@ use Rattle.least.specs.declared.Verdict.{Verdict}
 use Rattle.least.specs.declared.Verdict.the-variants as verdict
 use Rattle.least.specs.declared.Judgement.{Judgement}
 use Rattle.least.specs.declared.Judgement.the-variants as judgement
-use Rattle.view.specs.View.{ViewedAfter, Views}
+use Rattle.view.specs.View.{Viewed, Views}
 use Rattle.view.proofs.Few.{view-few}
-use Rattle.capi.proofs.Told.{Small, FitsReply, FitsAnswer, FitsVerdict, FitsJudgement}
+use Rattle.capi.proofs.Told.{SmallRefusal, FitsReply, FitsAnswer, FitsVerdict, FitsJudgement}
 
 -- ---- reading
 
-small : {n l p : ℕ} → n < 256 → l < 256 → p < 4294967296 → Small (record { number = n; list = l; position = p })
+small : {n l p : ℕ} → n < 256 → l < 256 → p < 4294967296 → SmallRefusal (record { number = n; list = l; position = p })
 small n l p = record { number = n; list = l; position = p }
 
-row-small : (d : List ℕ) {n l p : ℕ} → Row d n l p → Small (record { number = n; list = l; position = p })
+row-small : (d : List ℕ) {n l p : ℕ} → Row d n l p → SmallRefusal (record { number = n; list = l; position = p })
 row-small d (row-1 h) = small (omega arith) (omega arith) (omega arith)
 row-small d (row-2 g h) = small (omega arith) (omega arith) (omega arith)
 row-small d (row-3 f g h) = small (omega arith) (omega arith) (omega arith)
@@ -62,14 +63,14 @@ row-small d (row-4 i r f o) = small (omega arith) (omega arith) (omega arith)
 row-small d (row-5 i r t) = small (omega arith) (omega arith) (omega arith)
 row-small d (row-6 i r f o b) = small (omega arith) (omega arith) (omega arith)
 
-pub read-fits : (d : List ℕ) → FitsReply (readOf d)
+read-fits : (d : List ℕ) → FitsReply (readOf d)
 read-fits d = go (readOf d) refl
   where
     go : (r : Reply) → readOf d ≡ r → FitsReply r
     go (Count n) e = omega (arith, counted d n e, counted-sound d n e .few)
     go (Refused f) e = row-small d (refused-row d f .0 e)
 
-rule-small : (d : List ℕ) (list : ℕ) (rs : List ℕ) {f : Refusal} → list < 256 → rule.RuleRow d list rs f → Small f
+rule-small : (d : List ℕ) (list : ℕ) (rs : List ℕ) {f : Refusal} → list < 256 → rule.RuleRow d list rs f → SmallRefusal f
 rule-small d list rs l (rule.row-2 h) = small (omega arith) l (omega arith)
 rule-small d list rs l (rule.row-3 g h) = small (omega arith) l (omega arith)
 rule-small d list rs l (rule.row-7 i g h k n o) = small (omega arith) l (omega arith)
@@ -166,12 +167,10 @@ then-count (Count k) b n e = (k, refl)
 then-count (Refused f) b n e = let z : _≡_ {A = ℕ} 0 1 = cc in absurd (omega arith)
 
 pub back-fits : (d rs : List ℕ) (reply : Reply) (new : List ℕ) → Back d rs reply new → FitsReply reply
-back-fits d rs reply new b =
-    go (andThen (readOf d) (readRulesOf d 1 rs)) refl (then-fits (readOf d) _ (read-fits d) (λ n e. rules-fits d 1 rs (omega arith))) b
-  where
-    go : (r : Reply) → andThen (readOf d) (readRulesOf d 1 rs) ≡ r → FitsReply r → BackAfter r d rs reply new → FitsReply reply
-    go (Count n) e s b = let k = then-count (readOf d) _ n e in told-fits d rs (few d (k .0) (k .1)) b
-    go (Refused f) e s b = rw (b .0) s
+back-fits d rs =
+    after-all Refused d (Told d rs) FitsReply (andThen (readOf d) (readRulesOf d 1 rs))
+    (λ f e. subst FitsReply e (then-fits (readOf d) _ (read-fits d) (λ n e. rules-fits d 1 rs (omega arith))))
+    (λ n e r b t. let k = then-count (readOf d) _ n e in told-fits d rs (few d (k .0) (k .1)) t)
 
 -- ---- folding, judging, the view
 
@@ -179,11 +178,9 @@ back-fits d rs reply new b =
 module _ (A : Answers) (d : List ℕ) (x : Reply) (fits : FitsReply x) (sound : (n : ℕ) → x ≡ Count n → Sound d)
     (least-few : Sound d → (ms : List Mark) → Least A (elementsOf d) ms → count (elementsOf d) ms ≤ mostElements) where
   folded-after-fits : (reply : Reply) (new : List ℕ) → FoldedAfter A x d reply new → FitsReply reply
-  folded-after-fits reply new f = go x refl fits f
-    where
-      go : (r : Reply) → x ≡ r → FitsReply r → FoldedAfter A r d reply new → FitsReply reply
-      go (Count n) e s f = let l = least-few (sound n e) (f .marks) (f .folds .least) in rw (f .counted) (omega arith)
-      go (Refused g) e s f = rw (f .0) s
+  folded-after-fits =
+      after-all Refused d (Folds A d) FitsReply x (λ f e. subst FitsReply e fits)
+      (λ n e r b f. let l = least-few (sound n e) (f .marks) (f .folds .least) in rw (f .counted) (omega arith))
 
   -- what is judged is the count of the rules that are listed
   verdict-fits : Sound d → (v : Verdict) → Holds A (elementsOf d) (marksOf (elementsOf d)) v → FitsVerdict v
@@ -192,19 +189,17 @@ module _ (A : Answers) (d : List ℕ) (x : Reply) (fits : FitsReply x) (sound : 
   verdict-fits s (verdict.Longer k) h = omega (arith, s .few, listed-most d, h .excess)
   verdict-fits s (verdict.Wrong i a) h = omega (arith, s .few, elements-length d, h .there)
 
-  judged-after-fits : (j : Judgement) → JudgedAfter A x d j → FitsJudgement j
+  reports-fits : Sound d → (j : Judgement) (b : Unit {0}) → Reports A d j b → FitsJudgement j
   unfolding listedOf
-  judged-after-fits j h = go x refl fits j h
-    where
-      go : (r : Reply) → x ≡ r → FitsReply r → (j : Judgement) → JudgedAfter A r d j → FitsJudgement j
-      go (Count n) e s (judgement.Reported q) h =
-          (omega (arith, sound n e .few, listed-most d, h .counted), verdict-fits (sound n e) (q .verdict) (h .holds))
-      go (Count n) e s (judgement.Refused f) h = absurd h
-      go (Refused g) e s (judgement.Reported q) h = absurd h
-      go (Refused g) e s (judgement.Refused f) h = rw h s
+  reports-fits s (judgement.Reported q) b h = (omega (arith, s .few, listed-most d, h .counted), verdict-fits s (q .verdict) (h .holds))
+  reports-fits s (judgement.Refused f) b h = absurd h
+
+  judged-after-fits : (j : Judgement) → JudgedAfter A x d j → FitsJudgement j
+  judged-after-fits j =
+      after-all judgement.Refused tt (Reports A d) FitsJudgement x (λ f e. subst FitsReply e fits) (λ n e. reports-fits (sound n e)) j tt
 
 -- by the listed rules
-listed-few : (c : Combining) (d : List ℕ) → Sound d → (ms : List Mark) → Least (listed c) (elementsOf d) ms → count (elementsOf d) ms ≤ mostElements
+listed-few : (c : Combining) (d : List ℕ) → Sound d → (ms : List Mark) → Least (byRules c) (elementsOf d) ms → count (elementsOf d) ms ≤ mostElements
 listed-few c d s ms l = omega (arith, count-least c d s ms l, least-bounds c d s, s .few)
 
 -- and by the walk, as first applicable does
@@ -227,14 +222,12 @@ module _ (c : ℕ) (d : List ℕ) where
       go false l = omega arith
 
   pub folded-for-fits : (reply : Reply) (new : List ℕ) → FoldedFor c d reply new → FitsReply reply
-  folded-for-fits = folded-after-fits (listed (combiningOf c)) d (askedFor d c) asked-for-fits (asked-sound d c) (listed-few (combiningOf c) d)
+  folded-for-fits = folded-after-fits (byRules (combiningOf c)) d (askedFor d c) asked-for-fits (asked-sound d c) (listed-few (combiningOf c) d)
 
   pub judged-for-fits : (j : Judgement) → JudgedFor c d j → FitsJudgement j
-  judged-for-fits = judged-after-fits (listed (combiningOf c)) d (askedFor d c) asked-for-fits (asked-sound d c) (listed-few (combiningOf c) d)
+  judged-for-fits = judged-after-fits (byRules (combiningOf c)) d (askedFor d c) asked-for-fits (asked-sound d c) (listed-few (combiningOf c) d)
 
 pub views-fits : (d area : List ℕ) (reply : Reply) (new : List ℕ) → Views d area reply new → FitsReply reply
-views-fits d area reply new v = go (readOf d) refl (read-fits d) v
-  where
-    go : (r : Reply) → readOf d ≡ r → FitsReply r → ViewedAfter r d area reply new → FitsReply reply
-    go (Count n) e s v = rw (v .replied) (room-fits (length (v .shown)) area (omega (arith, few d n e, view-few d (v .view))))
-    go (Refused g) e s v = rw (v .0) s
+views-fits d area =
+    after-all Refused area (Viewed d area) FitsReply (readOf d) (λ f e. subst FitsReply e (read-fits d))
+    (λ n e r b v. rw (v .replied) (room-fits (length (v .shown)) area (omega (arith, few d n e, view-few d (v .view)))))

@@ -1,26 +1,30 @@
 -- The deciding rule's bytes as they are copied: all eight, or none. Assumes nothing.
-use mathlib.Core.Path.{_≡_, refl, sym, _∙_}
+use mathlib.Core.Path.{_≡_, refl, sym, ap, _∙_}
 use mathlib.Core.Logic.{_⊎_, inl, inr}
 use Prim.Native.Nat.{ℕ}
 use native.Mathlib.Omega.{arith}
-use mathlib.Core.List.{List, [], _∷_}
-use lib.ListN.{length}
-use lib.Seq.{take-all}
+use mathlib.Core.List.{List, [], _∷_, append-nil}
+use lib.ListN.{length, drop}
+use lib.Seq.{drop-length}
 use borrow.Author.Tests.{eq-eqb}
 use Rattle.dossier.specs.Limits.{width}
 use Rattle.dossier.specs.Bytes.{run, byteOf}
+use Rattle.dossier.specs.Replies.{areaAfter}
 use Rattle.dossier.specs.declared.Decision.the-variants.{Deny, Permit, None}
 use Rattle.dossier.specs.declared.Answer.{Answer}
 use Rattle.dossier.specs.declared.Answer.the-variants.{Given, Refused}
-use Rattle.dossier.proofs.RoundTrip.{record-bytes}
+use Rattle.dossier.proofs.RoundTrip.{eight-bytes}
+use Rattle.dossier.proofs.Stores.{area-fits, sets-front}
 use Rattle.rules.specs.Deciding.{decideOf, decidingOf}
 use Rattle.rules.proofs.Parts.{Silent, none, refused, part-empty, part-eight}
 use Rattle.capi.specs.Packed.{partAfter}
 use Rattle.capi.specs.Inner.{ifWhole}
 
--- eight bytes are a record's
-pub eight-bytes : (part : List ℕ) → length part ≡ width → run (byteOf part 0) 0 width ≡ part
-eight-bytes part e = sym (record-bytes part 0 (omega arith)) ∙ take-all width part (omega arith)
+-- a whole record that is stored into as many bytes is all that stands there
+pub whole-stored : (part was : List ℕ) {new : List ℕ} → new ≡ areaAfter was 0 (run (byteOf part 0) 0 width) → length part ≡ width → length was ≡ width → new ≡ part
+whole-stored part was e w l =
+    let rest : drop (length part) was ≡ [] = ap (λ (n : ℕ). drop n was) (w ∙ sym l) ∙ drop-length was in
+    e ∙ ap (areaAfter was 0) (eight-bytes part w) ∙ area-fits was 0 part (omega arith) ∙ sets-front was part (omega arith) ∙ rw (rest, append-nil)
 
 -- the deciding rule's bytes are none, or a record's
 deciding-part : (d house recipient : List ℕ) (c i : ℕ) → (decidingOf d house recipient c i ≡ []) ⊎ (length (decidingOf d house recipient c i) ≡ width)

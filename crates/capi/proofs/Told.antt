@@ -20,18 +20,18 @@ use Rattle.capi.specs.Packed.{packedRefusal, packedReply, packedAnswer, 
 
 -- ---- what fits its place in the number, so that nothing of it is lost
 
-pub record Small (f : Refusal) : Type 0 where
+pub record SmallRefusal (f : Refusal) : Type 0 where
   pub number : f .number < 256
   pub list : f .list < 256
   pub position : f .position < 4294967296
 
 abbrev pub FitsReply : Reply → Type 0
 FitsReply (Count n) = n < 9223372036854775808
-FitsReply (Refused f) = Small f
+FitsReply (Refused f) = SmallRefusal f
 
 abbrev pub FitsAnswer : Answer → Type 0
 FitsAnswer (answer.Given v) = Unit {0}
-FitsAnswer (answer.Refused f) = Small f
+FitsAnswer (answer.Refused f) = SmallRefusal f
 
 abbrev pub FitsVerdict : Verdict → Type 0
 FitsVerdict verdict.Least = Unit {0}
@@ -40,7 +40,7 @@ FitsVerdict (verdict.Wrong i a) = i < 65536
 
 abbrev pub FitsJudgement : Judgement → Type 0
 FitsJudgement (judgement.Reported r) = (r .count < 65536) × FitsVerdict (r .verdict)
-FitsJudgement (judgement.Refused f) = Small f
+FitsJudgement (judgement.Refused f) = SmallRefusal f
 
 -- ---- a refusal's number, and a success's
 
@@ -57,18 +57,18 @@ verdict-small verdict.Least = omega arith
 verdict-small (verdict.Longer n) = omega arith
 verdict-small (verdict.Wrong i a) = omega (arith, decision-small a)
 
-pub report-low : (r : Report) → packedJudgement (judgement.Reported r) < 9223372036854775808
+report-low : (r : Report) → packedJudgement (judgement.Reported r) < 9223372036854775808
 report-low r = omega (arith, verdict-small (r .verdict))
 
 -- ---- what is read from the number is what was packed
 
-pub refusal-number : (f : Refusal) → Small f → packedRefusal f / 1099511627776 % 256 ≡ f .number
+pub refusal-number : (f : Refusal) → SmallRefusal f → packedRefusal f / 1099511627776 % 256 ≡ f .number
 refusal-number f s = omega arith
 
-pub refusal-list : (f : Refusal) → Small f → packedRefusal f / 4294967296 % 256 ≡ f .list
+pub refusal-list : (f : Refusal) → SmallRefusal f → packedRefusal f / 4294967296 % 256 ≡ f .list
 refusal-list f s = omega arith
 
-pub refusal-position : (f : Refusal) → Small f → packedRefusal f % 4294967296 ≡ f .position
+pub refusal-position : (f : Refusal) → SmallRefusal f → packedRefusal f % 4294967296 ≡ f .position
 refusal-position f s = omega arith
 
 -- ---- one number, one reply
@@ -77,7 +77,7 @@ fields-one : {a b c x y z : ℕ} → a ≡ x → b ≡ y → c ≡ z
     → _≡_ {A = Refusal} (record { number = a; list = b; position = c }) (record { number = x; list = y; position = z })
 fields-one p q r = cc
 
-refusal-one : (f g : Refusal) → Small f → Small g → packedRefusal f ≡ packedRefusal g → f ≡ g
+refusal-one : (f g : Refusal) → SmallRefusal f → SmallRefusal g → packedRefusal f ≡ packedRefusal g → f ≡ g
 refusal-one f g s t e = fields-one (omega arith) (omega arith) (omega arith)
 
 decision-one : (v w : Decision) → decisionNumber v ≡ decisionNumber w → v ≡ w

@@ -1,2 +1,3 @@
+-- The definitions of `capi`, by file. Assumes nothing.
 pub mod Packed
 pub mod Inner

@@ -1,4 +1,4 @@
--- Replies as one number of 64 bits, for callers in other languages. Assumes nothing: these are definitions.
+-- Replies as one number of 64 bits, for callers in other languages. Document 01, "Refusal numbers" and "Least marks", for a caller in C. Assumes nothing: these are definitions.
 use mathlib.Core.Path.{_≡_}
 use Prim.Native.Nat.{ℕ, _+_, _*_, _%_}
 use mathlib.Core.Bool.{cond}

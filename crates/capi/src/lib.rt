@@ -139,7 +139,7 @@ fn put_part(part: &[u8], out: &mut [u8; WIDTH]) -> u64
     if part.len() != WIDTH {
         return 0;
     }
-    *out = [
+    let bytes = [
         part[0],
         part[1],
         part[2],
@@ -149,6 +149,7 @@ fn put_part(part: &[u8], out: &mut [u8; WIDTH]) -> u64
         part[6],
         part[7],
     ];
+    dossier::store(out, 0, bytes);
     WIDTH as u64
 }
 

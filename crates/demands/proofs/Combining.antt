@@ -17,8 +17,8 @@ use Rattle.dossier.proofs.Parents.{covers-chain}
 use Rattle.rules.specs.Rules.{Reach, self, all, Rule}
 use Rattle.rules.specs.Applying.{reaches, applies}
 use Rattle.rules.specs.Combining.{Combining, firstApplicable, denyOverrides, permitOverrides, firstEffect, gives, anyGives, overrides, decision}
-use Rattle.rules.proofs.Choice.{gives-is, is-gives}
-use Rattle.demands.specs.Published.{Reaches, Says, Some, NoRule, First, Chosen, Published}
+use Rattle.rules.proofs.Choice.{is-gives, gives-is}
+use Rattle.demands.specs.Published.{Reaches, RuleSays, Some, NoRule, FirstRule, Combined, Published}
 
 pub same : (a b : Effect) → is a ≡ is b → a ≡ b
 same deny deny q = refl
@@ -35,22 +35,22 @@ module _ (es : List Element) (o : Ordered es) (i : ℕ) where
 
   -- ---- the rules of a list, one by one
 
-  here : (r : Rule) (rs : List Rule) → applies es i r ≡ true → Says es i (r ∷ rs) 0 (r .effect)
+  here : (r : Rule) (rs : List Rule) → applies es i r ≡ true → RuleSays es i (r ∷ rs) 0 (r .effect)
   here r rs a = record { rule = r; stands = refl; applies = applied (r .reach) (r .target) .0 a; effect = refl }
 
-  on : (r : Rule) (rs : List Rule) (k : ℕ) (e : Effect) → Says es i rs k e → Says es i (r ∷ rs) (suc k) e
+  on : (r : Rule) (rs : List Rule) (k : ℕ) (e : Effect) → RuleSays es i rs k e → RuleSays es i (r ∷ rs) (suc k) e
   on r rs k e s = record { rule = s .rule; stands = s .stands; applies = s .applies; effect = s .effect }
 
-  back : (r : Rule) (rs : List Rule) (k : ℕ) (e : Effect) → Says es i (r ∷ rs) (suc k) e → Says es i rs k e
+  back : (r : Rule) (rs : List Rule) (k : ℕ) (e : Effect) → RuleSays es i (r ∷ rs) (suc k) e → RuleSays es i rs k e
   back r rs k e s = record { rule = s .rule; stands = s .stands; applies = s .applies; effect = s .effect }
 
   -- the first of a list
-  head : (r : Rule) (rs : List Rule) (e : Effect) → Says es i (r ∷ rs) 0 e → (applies es i r ≡ true) × (r .effect ≡ e)
+  head : (r : Rule) (rs : List Rule) (e : Effect) → RuleSays es i (r ∷ rs) 0 e → (applies es i r ≡ true) × (r .effect ≡ e)
   head r rs e s =
       let same : s .rule ≡ r = sym (Option·some-injective r (s .rule) (s .stands)) in
       (ap (applies es i) (sym same) ∙ applied (s .rule .reach) (s .rule .target) .1 (s .applies), ap (λ (x : Rule). x .effect) (sym same) ∙ s .effect)
 
-  empty : (k : ℕ) (e : Effect) → Says es i [] k e → ⊥
+  empty : (k : ℕ) (e : Effect) → RuleSays es i [] k e → ⊥
   empty k e s = Option·none-ne-some (s .rule) (s .stands)
 
   -- ---- first applicable
@@ -60,16 +60,16 @@ module _ (es : List Element) (o : Ordered es) (i : ℕ) where
   first-published [] = λ e k. empty k e
   first-published (r ∷ rs) = go (applies es i r) refl (firstEffect es i rs) (first-published rs)
     where
-      start : (e : Effect) → r .effect ≡ e → applies es i r ≡ true → First es i (r ∷ rs) e
-      start e q a = (0, subst (Says es i (r ∷ rs) 0) q (here r rs a), λ j l. let z : ⊥ = omega arith in absurd z)
+      start : (e : Effect) → r .effect ≡ e → applies es i r ≡ true → FirstRule es i (r ∷ rs) e
+      start e q a = (0, subst (RuleSays es i (r ∷ rs) 0) q (here r rs a), λ j l. let z : ⊥ = omega arith in absurd z)
 
-      none : applies es i r ≡ false → (f : Effect) → Says es i (r ∷ rs) 0 f → ⊥
+      none : applies es i r ≡ false → (f : Effect) → RuleSays es i (r ∷ rs) 0 f → ⊥
       none a f s = true≢false (sym (head r rs f s .0) ∙ a)
 
-      more : (e : Effect) → applies es i r ≡ false → First es i rs e → First es i (r ∷ rs) e
+      more : (e : Effect) → applies es i r ≡ false → FirstRule es i rs e → FirstRule es i (r ∷ rs) e
       more e a w = (suc (w .0), on r rs (w .0) e (w .1), before)
         where
-          before : (j : ℕ) → j < suc (w .0) → (f : Effect) → Says es i (r ∷ rs) j f → ⊥
+          before : (j : ℕ) → j < suc (w .0) → (f : Effect) → RuleSays es i (r ∷ rs) j f → ⊥
           before zero l f s = none a f s
           before (suc j) l f s = w .2 j (omega arith) f (back r rs j f s)
 
@@ -100,11 +100,11 @@ module _ (es : List Element) (o : Ordered es) (i : ℕ) where
     where
       none : (x y : Bool) → gives (is e) (r .effect) ≡ x → applies es i r ≡ y → (x && y) ≡ false → NoRule es i rs e → NoRule es i (r ∷ rs) e
       none x y p q n h zero s =
-          true≢false (sym (ap₂ _&&_ (sym p ∙ ap (gives (is e)) (head r rs e s .1) ∙ gives-is e) (sym q ∙ head r rs e s .0)) ∙ n)
+          true≢false (sym (ap₂ _&&_ (sym p ∙ ap (gives (is e)) (head r rs e s .1) ∙ is-gives e) (sym q ∙ head r rs e s .0)) ∙ n)
       none x y p q n h (suc k) s = h k (back r rs k e s)
 
       go : (x y : Bool) → gives (is e) (r .effect) ≡ x → applies es i r ≡ y → (t : Bool) → Any e rs t → Any e (r ∷ rs) (cond (x && y) true t)
-      go true true p q t h = (0, subst (Says es i (r ∷ rs) 0) (same (r .effect) e (is-gives (is e) (r .effect) p)) (here r rs q))
+      go true true p q t h = (0, subst (RuleSays es i (r ∷ rs) 0) (same (r .effect) e (gives-is (is e) (r .effect) p)) (here r rs q))
       go true false p q true h = (suc (h .0), on r rs (h .0) e (h .1))
       go true false p q false h = none true false p q refl h
       go false y p q true h = (suc (h .0), on r rs (h .0) e (h .1))
@@ -135,7 +135,7 @@ module _ (es : List Element) (o : Ordered es) (i : ℕ) where
 
     -- ---- and nothing else is published
 
-    first-one : (a b : Effect) → First es i rs a → First es i rs b → a ≡ b
+    first-one : (a b : Effect) → FirstRule es i rs a → FirstRule es i rs b → a ≡ b
     first-one a b x y = go (decLe (suc (x .0)) (y .0)) (decLe (suc (y .0)) (x .0))
       where
         go : Dec (x .0 < y .0) → Dec (y .0 < x .0) → a ≡ b
@@ -146,12 +146,12 @@ module _ (es : List Element) (o : Ordered es) (i : ℕ) where
             let q : some (x .1 .rule) ≡ some (y .1 .rule) = sym (x .1 .stands) ∙ ap (getElem? rs) k ∙ y .1 .stands in
             sym (x .1 .effect) ∙ ap (λ (r : Rule). r .effect) (Option·some-injective _ _ q) ∙ y .1 .effect
 
-    not-both : (c : Combining) → Chosen es i rs c deny → Chosen es i rs c permit → ⊥
+    not-both : (c : Combining) → Combined es i rs c deny → Combined es i rs c permit → ⊥
     not-both firstApplicable x y = let e = first-one deny permit x y in let z : _≡_ {A = ℕ} 0 1 = cc in omega arith
     not-both denyOverrides x y = y .0 (x .0) (x .1)
     not-both permitOverrides x y = x .0 (y .0) (y .1)
 
-    not-silent : (c : Combining) (e : Effect) → Chosen es i rs c e → ((f : Effect) → NoRule es i rs f) → ⊥
+    not-silent : (c : Combining) (e : Effect) → Combined es i rs c e → ((f : Effect) → NoRule es i rs f) → ⊥
     not-silent firstApplicable e x n = n e (x .0) (x .1)
     not-silent denyOverrides deny x n = n deny (x .0) (x .1)
     not-silent denyOverrides permit x n = n permit (x .1 .0) (x .1 .1)

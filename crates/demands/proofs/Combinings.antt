@@ -7,11 +7,11 @@ use lib.ListN.{length}
 use Rattle.dossier.specs.Elements.{Mark, Element}
 use Rattle.dossier.specs.declared.Decision.{Decision}
 use Rattle.rules.specs.Combining.{denyOverrides, permitOverrides}
-use Rattle.rules.specs.Exchange.{turned, exchangedElements}
+use Rattle.rules.specs.Exchange.{exchangedDecision, exchangedElements}
 use Rattle.rules.proofs.Combinings.{of-number, number-of}
-use Rattle.rules.proofs.Exchange.{turned-twice, decisions-exchanged}
+use Rattle.rules.proofs.Exchange.{exchanged-twice, decisions-exchanged}
 use Rattle.listing.proofs.Exchanging.{count-exchanged}
-use Rattle.least.specs.Least.{listed}
+use Rattle.least.specs.Least.{byRules}
 use Rattle.least.specs.Judging.{Longer, Wrong}
 use Rattle.least.specs.declared.Verdict.the-variants as verdict
 use Rattle.least.proofs.Matching.{Matches, matches-back, least-as, fold-as, holds-as}
@@ -20,19 +20,19 @@ use Rattle.least.proofs.Replies.{folded-as-0, folded-of-0, judged-as-0, judged-
 use Rattle.demands.specs.Combinings.{Combinings}
 
 module _ (es : List Element) (ms : List Mark) where
-  back : Matches (listed permitOverrides) (listed denyOverrides) turned es (exchangedElements es)
+  back : Matches (byRules permitOverrides) (byRules denyOverrides) exchangedDecision es (exchangedElements es)
   back = matches-back (exchange es)
 
-  longer-exchanged : (n : ℕ) → Longer (listed permitOverrides) es ms n ↔ Longer (listed denyOverrides) (exchangedElements es) ms n
+  longer-exchanged : (n : ℕ) → Longer (byRules permitOverrides) es ms n ↔ Longer (byRules denyOverrides) (exchangedElements es) ms n
   longer-exchanged n = (
     λ h. holds-as back ms (h .right .each ∙ back .long) (verdict.Longer n) h,
     λ h. holds-as (exchange es) ms (h .right .each ∙ exchange es .long) (verdict.Longer n) h,
   )
 
   wrong-exchanged : length ms ≡ length es → (i : ℕ) (a : Decision)
-      → Wrong (listed permitOverrides) es ms i (turned a) ↔ Wrong (listed denyOverrides) (exchangedElements es) ms i a
+      → Wrong (byRules permitOverrides) es ms i (exchangedDecision a) ↔ Wrong (byRules denyOverrides) (exchangedElements es) ms i a
   wrong-exchanged q i a = (
-    λ h. subst (Wrong (listed denyOverrides) (exchangedElements es) ms i) (turned-twice a) (holds-as back ms (q ∙ back .long) (verdict.Wrong i (turned a)) h),
+    λ h. subst (Wrong (byRules denyOverrides) (exchangedElements es) ms i) (exchanged-twice a) (holds-as back ms (q ∙ back .long) (verdict.Wrong i (exchangedDecision a)) h),
     λ h. holds-as (exchange es) ms q (verdict.Wrong i a) h,
   )
 

@@ -33,10 +33,11 @@ use Rattle.listing.specs.Back.{Gives, marked, none, Back}
 use Rattle.listing.proofs.Costs.{elements-length, marks-length}
 use Rattle.listing.proofs.Injective.{told, list-told}
 use Rattle.listing.proofs.Unique.{back-one}
-use Rattle.least.specs.Least.{Answers, listed, Fold, count}
+use Rattle.least.specs.Least.{Answers, byRules, Fold, count}
 use Rattle.least.specs.Folding.{FoldedAfter, Folded, askedFor, FoldedFor}
 use Rattle.least.specs.Judging.{JudgedAfter, Judged, JudgedFor}
-use Rattle.least.specs.Inner.{gatewayOf, wrongCost}
+use Rattle.least.specs.Prices.{wrongCost}
+use Rattle.least.specs.Inner.{gatewayOf}
 use Rattle.least.specs.declared.Judgement.{Judgement}
 use Rattle.least.specs.declared.Judgement.the-variants as judgement
 use Rattle.least.proofs.Folds.{fold}
@@ -44,9 +45,8 @@ use Rattle.least.proofs.Verdicts.{verdictOf}
 use Rattle.least.proofs.Numbers.{judges-by}
 use Rattle.least.proofs.Matching.{matches-back, fold-as}
 use Rattle.least.proofs.Gateways.{first-matches}
-use Rattle.least.proofs.Branches.{elementsFor}
 use Rattle.least.proofs.Replies.{asked-sound}
-use Rattle.least.proofs.Whole.{fold-listed}
+use Rattle.least.proofs.Whole.{elementsFor, fold-listed}
 use Rattle.least.proofs.Determined.{folded-after, judged-after}
 use Rattle.view.specs.View.{Views}
 use Rattle.view.specs.Inner.{shownOf}
@@ -161,7 +161,7 @@ module _ (A : Answers) (x : Reply) (d : List ℕ) (sound : (n : ℕ) → x ≡ C
       by j h = record { it = j; allowed = h; only = λ q g. judged-after A x d q j g h }
 
       go : (y : Reply) → x ≡ y → ExactlyOne (JudgedAfter A x d)
-      go (Refused f) e = by (judgement.Refused f) (rw e refl)
+      go (Refused f) e = by (judgement.Refused f) (rw e (refl, refl))
       go (Count n) e =
           let es = elementsOf d in
           let v = verdictOf A es marks (folds (sound n e) .least) (marksOf es) (marks-length d) long in
@@ -172,7 +172,7 @@ module _ (c : Combining) (d : List ℕ) where
   folded : List Mark
   folded = fold (gatewayOf c) wrongCost (elementsFor c d)
 
-  folded-listed : Sound d → Fold (listed c) (elementsOf d) folded
+  folded-listed : Sound d → Fold (byRules c) (elementsOf d) folded
   unfolding folded
   folded-listed s = fold-listed c d s
 
@@ -181,11 +181,11 @@ module _ (number : ℕ) (d : List ℕ) where
   c = combiningOf number
 
   fold-for-only : OneReply (FoldedFor number d)
-  fold-for-only = fold-by (listed c) (askedFor d number) d (asked-sound d number) (folded c d) (folded-listed c d)
+  fold-for-only = fold-by (byRules c) (askedFor d number) d (asked-sound d number) (folded c d) (folded-listed c d)
 
   judge-for-only : ExactlyOne (JudgedFor number d)
   judge-for-only =
-      judge-by (listed c) (askedFor d number) d (asked-sound d number) (folded c d) (folded-listed c d)
+      judge-by (byRules c) (askedFor d number) d (asked-sound d number) (folded c d) (folded-listed c d)
       (run-length (λ i. decision c (elementsOf d) i (listOf (elementsOf d) (marksOf (elementsOf d)))) 0 (length (elementsOf d)))
 
 module _ (d : List ℕ) where

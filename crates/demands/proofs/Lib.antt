@@ -1,4 +1,4 @@
-pub mod Orders
+-- The proofs of `demands`, by file. Assumes nothing.
 pub mod Requests
 pub mod WalkStep
 pub mod Determined

@@ -1,13 +1,8 @@
 -- Demand 3 holds by the walk, and read with each combining. Assumes nothing.
-use mathlib.Core.List.{[]}
-use lib.ListN.{length}
 use Rattle.dossier.specs.Bytes.{elementsOf}
-use Rattle.dossier.proofs.Runs.{run-length}
 use Rattle.dossier.proofs.Sounds.{sound-counted}
-use Rattle.rules.specs.Combining.{Combining, decision}
+use Rattle.rules.specs.Combining.{Combining}
 use Rattle.marks.specs.Marks.{first}
-use Rattle.marks.proofs.Forests.{walk-length}
-use Rattle.listing.specs.Listing.{listOf}
 use Rattle.least.proofs.Folds.{minuses-right, first-plain}
 use Rattle.least.proofs.Gateways.{minus-listed}
 use Rattle.least.proofs.OwnMarks.{asked-counted, own-list, own-verdict, own-ignore, own-list-for, own-verdict-for, own-ignore-for}
@@ -16,7 +11,6 @@ use Rattle.demands.proofs.Verdicts.{demand-by}
 
 pub demand-3 : Demand3 walking
 demand-3 = demand-by walking (record {
-  all = λ es ms q. walk-length first [] es ms q;
   accepted = sound-counted;
   minuses = λ d s. minuses-right first first-plain (elementsOf d);
   lists = own-list;
@@ -26,7 +20,6 @@ demand-3 = demand-by walking (record {
 
 pub demand-3-for : (c : Combining) → Demand3 (combining c)
 demand-3-for c = demand-by (combining c) (record {
-  all = λ es ms q. run-length (λ i. decision c es i (listOf es ms)) 0 (length es);
   accepted = asked-counted c;
   minuses = λ d s. minus-listed c (elementsOf d) (s .order);
   lists = own-list-for c;

@@ -14,9 +14,9 @@ use Rattle.dossier.specs.Bytes.{depthAt, dossierBytes}
 use Rattle.dossier.specs.Order.{Ordered}
 use Rattle.dossier.specs.Replies.{refusal}
 use Rattle.dossier.specs.Reading.{lowAfter, highAfter, faultOf, faultAt, firstFault, readOf}
+use Rattle.dossier.specs.Forest.{parse, frontF, backF}
 use Rattle.dossier.specs.declared.Reply.{Reply}
 use Rattle.dossier.specs.declared.Reply.the-variants.{Count, Refused}
-use Rattle.dossier.proofs.Parse.{parse, front, back}
 use Rattle.dossier.proofs.RoundTrip.{mark-back, elements-back}
 use Rattle.dossier.proofs.Sounds.{counted-sound}
 use Rattle.marks.specs.Marks.{first}
@@ -26,7 +26,7 @@ use Rattle.marks.proofs.Forests.{walk-length}
 use Rattle.listing.specs.Listing.{listOf, branches, branchesRules, childrenRules, others}
 use Rattle.least.specs.Least.{count, Fold}
 use Rattle.least.specs.Judging.{Holds}
-use Rattle.least.specs.Inner.{choose, better, sums}
+use Rattle.least.specs.Prices.{better, choose, sums}
 use Rattle.least.specs.declared.Verdict.{Verdict}
 use Rattle.least.specs.declared.Verdict.the-variants.{Least, Longer, Wrong}
 use Rattle.least.proofs.Minimal.{greedy}
@@ -119,5 +119,5 @@ taken (some a) e = a
 taken none e = let z : _≡_ {A = ℕ} 0 1 = cc in let y : ⊥ = omega arith in absurd y
 
 pub twelve : All table
-unfolding tested-all bind readOf firstFault faultAt faultOf lowAfter highAfter depthAt parse greedy choose front back better sums verdictOf differ eq-decision decLe listOf branches branchesRules childrenRules others
+unfolding tested-all bind readOf firstFault faultAt faultOf lowAfter highAfter depthAt parse greedy choose frontF backF better sums verdictOf differ eq-decision decLe listOf branches branchesRules childrenRules others
 twelve = taken (tested-all table) refl

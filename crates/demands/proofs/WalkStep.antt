@@ -9,9 +9,11 @@ use mathlib.Core.List.{List}
 use lib.ListN.{length}
 use Rattle.dossier.specs.Limits.{width, mostElements}
 use Rattle.dossier.specs.Reading.{fieldsAt}
+use Rattle.dossier.specs.Refusing.{Refusals, _before_, first, later}
 use Rattle.dossier.specs.declared.Refusal.{Refusal}
 use Rattle.dossier.specs.declared.Answer.{Answer}
 use Rattle.dossier.specs.declared.Answer.the-variants.{Refused}
+use Rattle.dossier.proofs.Orders.{Never, Refuses, here, on, none, row-here, row-never}
 use Rattle.dossier.proofs.Rows.{Fault, nothing, four, five, six, fault}
 use Rattle.marks.specs.Stepping.{refusedStep, acceptedStep, takeOf, isGiven, Leaves, Steps}
 use Rattle.marks.specs.declared.Walk.{Walk}
@@ -19,13 +21,12 @@ use Rattle.marks.specs.declared.Stepped.{Stepped}
 use Rattle.marks.proofs.Takes.{faultNext, take-short, take-full, take-faulty, take-good}
 use Rattle.marks.proofs.Determined.{leaves?}
 use Rattle.marks.proofs.Keeping.{refused-unchanged}
-use Rattle.demands.specs.Refusing.{Refusals, _before_, first, later, neverLeft, notOneRecord, allTaken, tooDeep, outOfOrder, badField}
-use Rattle.demands.proofs.Orders.{Free, Refuses, here, on, none, row-here, row-free}
+use Rattle.demands.specs.Refusing.{neverLeft, notOneRecord, allTaken, tooDeep, outOfOrder, badField}
 
 same : (f g : Refusal) → Refused f ≡ Refused g → f ≡ g
 same f g e = cc
 
-free-both : {P Q : Refusals} → Free P → Free Q → Free (P before Q)
+free-both : {P Q : Refusals} → Never P → Never Q → Never (P before Q)
 free-both n m f (first p) = n f p
 free-both n m f (later h q) = m f q
 
@@ -41,7 +42,7 @@ module _ (w : Walk) (r : List ℕ) where
 
   -- what a fault's number, or 0, says
   record Faults (n : ℕ) : Type 0 where
-    clear : n ≡ 0 → Free faulty
+    clear : n ≡ 0 → Never faulty
     given : n ≢ 0 → Refuses Refused (refusedBy n) faulty
 
   number : (n : ℕ) → n ≢ 0 → Refuses Refused (refusedBy n) faulty → Faults n
@@ -52,12 +53,12 @@ module _ (w : Walk) (r : List ℕ) where
     where
       go : {n : ℕ} → Fault (w .taken) (w .depth) (fieldsAt r 0) n → Faults n
       go (nothing f) = record {
-        clear = λ e. free-both (row-free (f .0)) (free-both (row-free (f .1)) (row-free (f .2)));
+        clear = λ e. free-both (row-never (f .0)) (free-both (row-never (f .1)) (row-never (f .2)));
         given = λ n. absurd (n refl);
       }
       go (five t) = number 5 (λ e. omega arith) (here Refused (row-here Refused same 5 0 _ _ t))
-      go (four f o) = number 4 (λ e. omega arith) (on Refused (row-free f) (here Refused (row-here Refused same 4 0 _ _ o)))
-      go (six f o b) = number 6 (λ e. omega arith) (on Refused (row-free f) (on Refused (row-free o) (row-here Refused same 6 0 _ _ b)))
+      go (four f o) = number 4 (λ e. omega arith) (on Refused (row-never f) (here Refused (row-here Refused same 4 0 _ _ o)))
+      go (six f o b) = number 6 (λ e. omega arith) (on Refused (row-never f) (on Refused (row-never o) (row-here Refused same 6 0 _ _ b)))
 
   -- a walk that can be left takes the record, or refuses it: 2, 3, then its fault
   take-refused : Refuses Refused (takeOf w r .answer) (notOneRecord r before allTaken w before faulty)
@@ -67,12 +68,12 @@ module _ (w : Walk) (r : List ℕ) where
       go : Dec (length r ≡ width) → Dec (mostElements ≤ w .taken) → Dec (faultNext w r ≡ 0)
           → Refuses Refused (takeOf w r .answer) (notOneRecord r before allTaken w before faulty)
       go (no n) m z = rw (take-short w r n) (here Refused (row-here Refused same 2 0 0 _ n))
-      go (yes e) (yes m) z = rw (take-full w r e m) (on Refused (row-free (λ n. n e)) (here Refused (row-here Refused same 3 0 0 _ m)))
+      go (yes e) (yes m) z = rw (take-full w r e m) (on Refused (row-never (λ n. n e)) (here Refused (row-here Refused same 3 0 0 _ m)))
       go (yes e) (no m) (no n) =
-          rw (take-faulty w r e (lt-of-not-le m) refl n) (on Refused (row-free (λ n. n e)) (on Refused (row-free m) (faults .given n)))
+          rw (take-faulty w r e (lt-of-not-le m) refl n) (on Refused (row-never (λ n. n e)) (on Refused (row-never m) (faults .given n)))
       go (yes e) (no m) (yes z) =
           rw (take-good w r e (lt-of-not-le m) refl z)
-          (on Refused (row-free (λ n. n e)) (on Refused (row-free m) (none Refused (faults .clear z) (λ f e. let z : _≡_ {A = ℕ} 0 1 = cc in omega arith))))
+          (on Refused (row-never (λ n. n e)) (on Refused (row-never m) (none Refused (faults .clear z) (λ f e. let z : _≡_ {A = ℕ} 0 1 = cc in omega arith))))
 
 -- ---- the step
 
@@ -83,7 +84,7 @@ step-refused w r s t = go (leaves? w)
   where
     go : Dec (Leaves w)
         → Refuses Refused (s .answer) (neverLeft w before notOneRecord r before allTaken w before tooDeep w r before outOfOrder w r before badField w r)
-    go (yes left) = rw (t .takes left) (on Refused (row-free (λ n. n left)) (take-refused w r))
+    go (yes left) = rw (t .takes left) (on Refused (row-never (λ n. n left)) (take-refused w r))
     go (no never) = rw (t .refuses never) (here Refused (row-here Refused same 17 0 0 _ never))
 
 pub step-unchanged : (w : Walk) (r : List ℕ) (s : Stepped) (f : Refusal) → Steps w r s → s .answer ≡ Refused f → s .walk ≡ w

@@ -1,4 +1,4 @@
--- How the combinings hang together: each has its number, 0 is the base's folder and judge, and exchanging permit and deny throughout turns permit overrides into deny overrides.
+-- How the combinings hang together: each has its number, 0 is the base's folder and judge, and exchanging permit and deny throughout turns permit overrides into deny overrides. Request M-104 and document 01, "How a decision comes about".
 -- Assumes nothing: these are definitions.
 use mathlib.Core.Path.{_≡_}
 use mathlib.Core.Logic.{_↔_}
@@ -10,8 +10,8 @@ use Rattle.dossier.specs.declared.Decision.{Decision}
 use Rattle.dossier.specs.declared.Reply.{Reply}
 use Rattle.rules.specs.Rules.{Rule}
 use Rattle.rules.specs.Combining.{Combining, denyOverrides, permitOverrides, combiningNumber, lastCombining, combiningOf, decisions}
-use Rattle.rules.specs.Exchange.{turned, exchanged, exchangedElements}
-use Rattle.least.specs.Least.{listed, count, Least, Fold}
+use Rattle.rules.specs.Exchange.{exchangedDecision, exchanged, exchangedElements}
+use Rattle.least.specs.Least.{byRules, count, Least, Fold}
 use Rattle.least.specs.Folding.{Folded, FoldedFor}
 use Rattle.least.specs.Judging.{Longer, Wrong, Judged, JudgedFor}
 use Rattle.least.specs.declared.Judgement.{Judgement}
@@ -26,12 +26,12 @@ pub record Combinings : Type 0 where
   pub fold-0 : (d : List ℕ) (reply : Reply) (new : List ℕ) → FoldedFor 0 d reply new ↔ Folded d reply new
   pub judge-0 : (d : List ℕ) (j : Judgement) → JudgedFor 0 d j ↔ Judged d j
   -- exchanged throughout, the answers of permit overrides over any rule list are those of deny overrides
-  pub answers : (es : List Element) (rs : List Rule) → decisions permitOverrides es rs ≡ map turned (decisions denyOverrides (exchangedElements es) (map exchanged rs))
+  pub answers : (es : List Element) (rs : List Rule) → decisions permitOverrides es rs ≡ map exchangedDecision (decisions denyOverrides (exchangedElements es) (map exchanged rs))
   -- the folder's marks are the same, and so is their count
-  pub fold : (es : List Element) (ms : List Mark) → Fold (listed permitOverrides) es ms ↔ Fold (listed denyOverrides) (exchangedElements es) ms
+  pub fold : (es : List Element) (ms : List Mark) → Fold (byRules permitOverrides) es ms ↔ Fold (byRules denyOverrides) (exchangedElements es) ms
   pub counts : (es : List Element) (ms : List Mark) → count es ms ≡ count (exchangedElements es) ms
   -- and so is the verdict, but that the answer of a wrong one is exchanged
-  pub least : (es : List Element) (ms : List Mark) → Least (listed permitOverrides) es ms ↔ Least (listed denyOverrides) (exchangedElements es) ms
-  pub longer : (es : List Element) (ms : List Mark) (n : ℕ) → Longer (listed permitOverrides) es ms n ↔ Longer (listed denyOverrides) (exchangedElements es) ms n
+  pub least : (es : List Element) (ms : List Mark) → Least (byRules permitOverrides) es ms ↔ Least (byRules denyOverrides) (exchangedElements es) ms
+  pub longer : (es : List Element) (ms : List Mark) (n : ℕ) → Longer (byRules permitOverrides) es ms n ↔ Longer (byRules denyOverrides) (exchangedElements es) ms n
   pub wrong : (es : List Element) (ms : List Mark) → length ms ≡ length es → (i : ℕ) (a : Decision)
-      → Wrong (listed permitOverrides) es ms i (turned a) ↔ Wrong (listed denyOverrides) (exchangedElements es) ms i a
+      → Wrong (byRules permitOverrides) es ms i (exchangedDecision a) ↔ Wrong (byRules denyOverrides) (exchangedElements es) ms i a

@@ -1,4 +1,4 @@
--- What a public function promises fixes its reply and what each buffer lent to it then holds, on every input. Assumes nothing: these are definitions.
+-- What a public function promises fixes its reply and what each buffer lent to it then holds, on every input. Document 01, "How much each contract says", (a). Assumes nothing: these are definitions.
 -- These promise equations, so that reply and buffer are what a function of the inputs says (and two that are the same are equal, `by-equation` in proofs/Determined.antt):
 --   dossier: refused, fault, read, key, below
 --   rules: read_rules, applies, decide, deciding

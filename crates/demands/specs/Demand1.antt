@@ -7,6 +7,7 @@ use mathlib.Core.List.{List}
 use lib.ListN.{length}
 use Rattle.dossier.specs.Bytes.{records}
 use Rattle.dossier.specs.Reading.{readOf, Sound}
+use Rattle.dossier.specs.Refusing.{_before_, inElements, tooShort}
 use Rattle.dossier.specs.declared.Refusal.{Refusal}
 use Rattle.dossier.specs.declared.Reply.{Reply}
 use Rattle.dossier.specs.declared.Reply.the-variants.{Count, Refused}
@@ -24,7 +25,7 @@ use Rattle.least.specs.declared.Judgement.{Judgement}
 use Rattle.least.specs.declared.Judgement.the-variants as judgement
 use Rattle.view.specs.View.{Views}
 use Rattle.demands.specs.Definite.{Definite}
-use Rattle.demands.specs.Refusing.{_before_, inElements, inRules, tooShort, tooShortForView, noMarks, noElement, noCombining, neverLeft, notOneRecord, allTaken, tooDeep, outOfOrder, badField}
+use Rattle.demands.specs.Refusing.{inRules, tooShortForView, noMarks, noElement, noCombining, neverLeft, notOneRecord, allTaken, tooDeep, outOfOrder, badField}
 
 pub record Demand1 : Type 0 where
   -- every byte sequence gets a definite reply: what is promised allows exactly one, and one content of each lent buffer

@@ -2,23 +2,21 @@
 -- Assumes nothing: these are definitions.
 use mathlib.Core.Path.{_≡_}
 use mathlib.Core.Logic.{_↔_}
-use Prim.Native.Nat.{ℕ, _*_, _≤_, _<_}
+use Prim.Native.Nat.{ℕ, _*_, _≤_}
 use mathlib.Core.List.{List}
-use lib.ListN.{length, getD, replicate}
+use lib.ListN.{length, replicate}
 use Rattle.dossier.specs.Limits.{width}
-use Rattle.dossier.specs.Elements.{Mark, m-, marksOf, is}
-use Rattle.dossier.specs.Bytes.{records, elementAt, elementsOf, withMarks}
+use Rattle.dossier.specs.Elements.{Mark, m-, marksOf}
+use Rattle.dossier.specs.Bytes.{records, elementsOf, withMarks}
 use Rattle.dossier.specs.Reading.{readOf, Sound}
 use Rattle.dossier.specs.declared.Decision.{Decision}
-use Rattle.dossier.specs.declared.Decision.the-variants.{None}
 use Rattle.dossier.specs.declared.Reply.{Reply}
 use Rattle.dossier.specs.declared.Reply.the-variants.{Count}
 use Rattle.rules.specs.Combining.{Combining, combiningNumber}
 use Rattle.marks.specs.Marks.{first}
 use Rattle.marks.specs.Walking.{walked}
-use Rattle.listing.specs.Listing.{listOf}
 use Rattle.listing.specs.Area.{listedOf, listReply}
-use Rattle.least.specs.Least.{Answers, listed, First}
+use Rattle.least.specs.Least.{Answers, byRules, Right, count, Least, First}
 use Rattle.least.specs.Folding.{FoldedAfter, askedFor}
 use Rattle.least.specs.Judging.{Longer, Wrong, JudgedAfter}
 use Rattle.least.specs.declared.Verdict.the-variants as verdict
@@ -39,7 +37,7 @@ walking = record { answers = walked first; asked = readOf }
 
 -- by deciding over the listed rules with a combining, asked for by its number
 abbrev pub combining : Combining → Way
-combining c = record { answers = listed c; asked = λ d. askedFor d (combiningNumber c) }
+combining c = record { answers = byRules c; asked = λ d. askedFor d (combiningNumber c) }
 
 -- what the folder and the judge promise that way: with `walking` these are `Folded` and `Judged`, with `combining c` they are `FoldedFor` and `JudgedFor` of its number (`fold-by` and `judge-by` in Combinings.antt)
 abbrev pub FoldedBy : Way → List ℕ → Reply → List ℕ → Type 0
@@ -50,36 +48,22 @@ JudgedBy w d j = JudgedAfter (w .answers) (w .asked d) d j
 
 -- ---- the demand
 
--- a choice of the four marks per element, by which each element gets its set decision
-pub record Right (w : Way) (d : List ℕ) (ms : List Mark) : Type 0 where
-  pub each : length ms ≡ records d
-  pub gets : (i : ℕ) → i < records d → getD (w .answers (elementsOf d) ms) i None ≡ is (elementAt d i .decision)
-
--- how many rules marks list
-abbrev pub ruleCount : List ℕ → List Mark → ℕ
-ruleCount d ms = length (listOf (elementsOf d) ms)
-
--- each element gets its set decision, and no choice of the four marks per element does that with fewer rules
-pub record Least (w : Way) (d : List ℕ) (ms : List Mark) : Type 0 where
-  pub right : Right w d ms
-  pub fewest : (other : List Mark) → Right w d other → ruleCount d ms ≤ ruleCount d other
-
 -- the marks that a dossier holds, from anyone
 abbrev pub marksIn : List ℕ → List Mark
 marksIn d = marksOf (elementsOf d)
 
 pub record Demand3 (w : Way) : Type 0 where
   -- for every sound dossier and marks from anyone, the judge says "least" exactly when each element gets its set decision and no choice of the four marks per element does that with fewer rules
-  pub least : (d : List ℕ) (r : Report) → Sound d → JudgedBy w d (Reported r) → (r .verdict ≡ verdict.Least) ↔ Least w d (marksIn d)
+  pub least : (d : List ℕ) (r : Report) → Sound d → JudgedBy w d (Reported r) → (r .verdict ≡ verdict.Least) ↔ Least (w .answers) (elementsOf d) (marksIn d)
   -- it says longer by n, and wrong at element i with its answer there, exactly when they are
   pub longer : (d : List ℕ) (r : Report) (n : ℕ) → Sound d → JudgedBy w d (Reported r)
       → (r .verdict ≡ verdict.Longer n) ↔ Longer (w .answers) (elementsOf d) (marksIn d) n
   pub wrong : (d : List ℕ) (r : Report) (i : ℕ) (a : Decision) → Sound d → JudgedBy w d (Reported r)
       → (r .verdict ≡ verdict.Wrong i a) ↔ Wrong (w .answers) (elementsOf d) (marksIn d) i a
   -- it always reports, with the number of rules that the marks list
-  pub reported : (d : List ℕ) (j : Judgement) → Sound d → JudgedBy w d j → (r : Report) × (j ≡ Reported r) × (r .count ≡ ruleCount d (marksIn d))
+  pub reported : (d : List ℕ) (j : Judgement) → Sound d → JudgedBy w d j → (r : Report) × (j ≡ Reported r) × (r .count ≡ count (elementsOf d) (marksIn d))
   -- right markings always exist: `-` everywhere
-  pub minus-right : (d : List ℕ) → Sound d → Right w d (replicate (records d) m-)
+  pub minus-right : (d : List ℕ) → Sound d → Right (w .answers) (elementsOf d) (replicate (records d) m-)
   -- the folder's own marks always get that verdict, with the count that the folder reports
   pub own-least : (d : List ℕ) (n : ℕ) (new : List ℕ) (j : Judgement) → Sound d → FoldedBy w d (Count n) new → JudgedBy w new j
       → j ≡ Reported (record { count = n; verdict = verdict.Least })
@@ -91,7 +75,7 @@ pub record Demand3 (w : Way) : Type 0 where
       → (n : ℕ) × (reply ≡ Count n) × (1 ≤ n) × (n ≤ records d)
   -- it writes its marks and no other byte; of several least ones they come first
   pub own-first : (d : List ℕ) (reply : Reply) (new : List ℕ) → Sound d → FoldedBy w d reply new
-      → (ms : List Mark) × (new ≡ withMarks d 0 ms) × Least w d ms × ((other : List Mark) → Least w d other → First ms other)
+      → (ms : List Mark) × (new ≡ withMarks d 0 ms) × Least (w .answers) (elementsOf d) ms × ((other : List Mark) → Least (w .answers) (elementsOf d) other → First ms other)
   -- it ignores the marks it finds: of the same dossier with any marks in it, it replies the same and leaves the same
   pub own-ignores : (d : List ℕ) (found : List Mark) (reply other : Reply) (new left : List ℕ) → Sound d → length found ≡ records d
       → FoldedBy w d reply new → FoldedBy w (withMarks d 0 found) other left → (reply ≡ other) × (new ≡ left)

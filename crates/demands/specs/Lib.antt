@@ -1,3 +1,4 @@
+-- The definitions of `demands`, by file. Assumes nothing.
 pub mod Refusing
 pub mod Definite
 pub mod Published

@@ -1,5 +1,4 @@
--- The refusals of a request, one condition after the other in the order of the table. Assumes nothing: these are definitions.
-use mathlib.Core.Path.{_≡_}
+-- The rows of the table that the requests put in their order. Those of a dossier's own bytes and of an output area stand in dossier/specs/Refusing.antt. Document 01, "Refusal numbers". Assumes nothing: these are definitions.
 use mathlib.Core.Logic.{_≢_}
 use Prim.Native.Nat.{ℕ, _*_, _≤_, _<_}
 use mathlib.Core.List.{List}
@@ -8,8 +7,8 @@ use Rattle.dossier.specs.Limits.{width, mostElements}
 use Rattle.dossier.specs.Elements.{Mark}
 use Rattle.dossier.specs.Bytes.{records}
 use Rattle.dossier.specs.Reading.{fieldsAt}
-use Rattle.dossier.specs.Table.{TooDeep, OutOfOrder, BadField, Row}
-use Rattle.dossier.specs.declared.Refusal.{Refusal}
+use Rattle.dossier.specs.Table.{TooDeep, OutOfOrder, BadField}
+use Rattle.dossier.specs.Refusing.{Refusals, row}
 use Rattle.rules.specs.Rules.{rulesOf}
 use Rattle.rules.specs.RuleTable.{RuleRow}
 use Rattle.rules.specs.Combining.{lastCombining}
@@ -18,35 +17,11 @@ use Rattle.marks.specs.declared.Walk.{Walk}
 use Rattle.listing.specs.Back.{Gives}
 use Rattle.view.specs.View.{IsView}
 
--- which refusals are to be given
-abbrev pub Refusals : Type 1
-Refusals = Refusal → Type 0
-
--- this number, list and position, where P holds
-abbrev pub row : ℕ → ℕ → ℕ → Type 0 → Refusals
-row number list position P f = (f ≡ record { number = number; list = list; position = position }) × P
-
--- the refusals of P; where there is none of these, those of Q
-pub data _before_ (P Q : Refusals) (f : Refusal) : Type 0 where
-  first : P f → (P before Q) f
-  later : ((g : Refusal) → P g → ⊥) → Q f → (P before Q) f
-
-infixr 20 _before_
--- ---- the rows of the table
-
--- 1 to 6, of a dossier's own bytes
-abbrev pub inElements : List ℕ → Refusals
-inElements d f = Row d (f .number) (f .list) (f .position)
-
 -- 2, 3 and 7, of a rule list over the dossier
 abbrev pub inRules : List ℕ → ℕ → List ℕ → Refusals
 inRules d list rs = RuleRow d list rs
 
--- 8: the output area is shorter than the records to be written
-abbrev pub tooShort : ℕ → List ℕ → Refusals
-tooShort n area = row 8 0 0 (length area < n * width)
-
--- the same, where the view is to be written
+-- 8: the output area is shorter than the view to be written
 abbrev pub tooShortForView : List ℕ → List ℕ → Refusals
 tooShortForView d area = row 8 0 0 ((shown : List (List ℕ)) × IsView d shown × (length area < length shown * width))
 

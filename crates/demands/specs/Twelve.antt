@@ -1,4 +1,4 @@
--- The twelve cases tried by hand that are proved, as one table and one statement about the definitions. Assumes nothing: these are definitions.
+-- The twelve cases tried by hand that are proved, as one table and one statement about the definitions. Document 01, "Elements tried by hand". Assumes nothing: these are definitions.
 use mathlib.Core.Path.{_≡_}
 use Prim.Native.Nat.{ℕ}
 use mathlib.Core.List.{List, [], _∷_}

@@ -1,6 +1,6 @@
 -- A record by itself is record 0 of its own bytes, and has the fields that it has where it stands. Assumes nothing.
 use mathlib.Core.Path.{_≡_, refl, sym, ap, _∙_}
-use Prim.Native.Nat.{ℕ, _+_, _*_, _<_}
+use Prim.Native.Nat.{ℕ, _*_, _<_}
 use native.Mathlib.Nat.{add-zero}
 use native.Mathlib.Omega.{arith}
 use mathlib.Core.List.{List}
@@ -9,7 +9,7 @@ use lib.Seq.{length-take-le, getD-take, getD-drop}
 use Rattle.dossier.specs.Limits.{width}
 use Rattle.dossier.specs.Elements.{Element, effectNumber, markNumber}
 use Rattle.dossier.specs.Bytes.{records, byteOf, recordAt, depthAt, elementBytes}
-use Rattle.dossier.specs.Reading.{Fields, fieldsAt}
+use Rattle.dossier.specs.Reading.{fieldsAt}
 use Rattle.dossier.proofs.Laws.{depth-byte}
 
 module _ (d : List ℕ) (i : ℕ) (there : i < records d) where

@@ -1,2 +1,3 @@
+-- The definitions of `front`, by file. Assumes nothing.
 pub mod Printing
 pub mod Inner

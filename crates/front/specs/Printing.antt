@@ -1,4 +1,4 @@
--- What the program prints. Assumes nothing: these are definitions.
+-- What the program prints. Document 01, "What is built": "one program". Assumes nothing: these are definitions.
 use mathlib.Core.Path.{_≡_}
 use Prim.Native.Nat.{ℕ}
 use mathlib.Core.List.{List, _++_}

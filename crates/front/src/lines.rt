@@ -3,8 +3,7 @@ use dossier::WIDTH;
 use programs::put_effect;
 use programs::put_number;
 use programs::put_word;
-ghost use mathlib.Core.Path.{_≡_};
-ghost use Prim.Native.Nat.{_+_, _*_, _<_};
+ghost use Prim.Native.Nat.{_<_};
 ghost use Rattle.dossier.specs.Bytes.{records};
 ghost use Rattle.rules.specs.Rules.{reachOf, ruleAt, rulesOf};
 ghost use Rattle.programs.specs.Area.{Room, Puts};
@@ -32,20 +31,13 @@ fn put_line(out: &mut [u8], at: usize, target: usize, effect: u8, reach: u8) -> 
     put_reach(out, after_effect, reach)
 }
 
-// Two bytes as a number, the lower first.
-fn two(low: u8, high: u8) -> usize
-    ensures { λ r. ⌜ r ≡ low + high * 256 ⌝ }
-{
-    (low as usize) + (high as usize) * 256
-}
-
 // Puts the line of rule i of a list.
 fn put_rule(out: &mut [u8], at: usize, rules: &[u8], i: usize) -> usize
     requires { ⌜ (i < records (now rules)) × Room (now out) at (lineOf (ruleAt (now rules) i)) ⌝ }
     ensures { λ r. ⌜ Puts (now (out .entry)) at (lineOf (ruleAt (now (rules .entry)) i)) (now (out .exit)) r ⌝ }
 {
     let from = i * WIDTH;
-    let target = two(rules[from], rules[from + 1]);
+    let target = dossier::two(rules[from], rules[from + 1]);
     put_line(out, at, target, rules[from + 2], rules[from + 3])
 }
 

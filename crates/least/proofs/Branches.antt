@@ -1,74 +1,70 @@
--- The best sums by position: what the loop over an element's children keeps. Assumes nothing.
-use mathlib.Core.Path.{_≡_, refl, sym, ap, _∙_, fun-ext}
-use mathlib.Core.List.{List}
-use Prim.Native.Nat.{ℕ, suc, _+_, _*_, _-_, _≤_, _<_}
-use native.Mathlib.Nat.{sub-zero}
+-- The best sums by position: what the loop over an element's children keeps, for any elements that stand at the positions 0 to n - 1, whatever they are read from.
+-- Assumes nothing.
+use mathlib.Core.Path.{_≡_, refl, ap, fun-ext}
+use Prim.Native.Nat.{ℕ, suc, _+_, _*_, _≤_, _<_}
+use native.Mathlib.Nat.{mul-le-mul-right}
 use native.Mathlib.Omega.{arith}
-use lib.ListN.{drop}
 use Rattle.dossier.specs.Limits.{mostElements}
 use Rattle.dossier.specs.Elements.{Element}
-use Rattle.dossier.specs.Bytes.{records, run, depthAt, elementAt, elementsOf}
-use Rattle.dossier.specs.Reading.{Sound}
+use Rattle.dossier.specs.Forest.{Forest, nil, sizeF, forestBelow, endOf}
 use Rattle.dossier.specs.declared.Decision.{Decision}
 use Rattle.dossier.specs.declared.Decision.the-variants.{Deny, Permit, None}
-use Rattle.dossier.proofs.Forest.{Forest, nil, node, sizeF}
-use Rattle.dossier.proofs.Runs.{run-length, run-first, run-none, run-drop, run-map}
-use Rattle.dossier.proofs.Under.{under, size-le, under-nil, under-stop, under-node}
-use Rattle.least.specs.declared.choosing.Sums.{Sums}
+use Rattle.dossier.proofs.Positions.{from, ahead, below-in, ahead-end, ahead-stop, ahead-more}
 use Rattle.rules.specs.Combining.{Combining}
-use Rattle.least.specs.Inner.{gatewayOf, seenBy, elementFor, wrongCost, sums, Small, sumAt, sumsOf, plusOf, bestBy, below, branchOf}
+use Rattle.marks.specs.Marks.{Gateway}
+use Rattle.least.specs.Prices.{wrongCost, sums}
+use Rattle.least.specs.Inner.{gatewayOf, Small, sumAt, sumsOf, plusOf, bestBy, branchOf}
+use Rattle.least.specs.declared.choosing.Sums.{Sums}
 use Rattle.least.proofs.Minimal.{sums-most}
-use Rattle.least.proofs.Gateways.{seenAll}
+use Rattle.least.proofs.Summing.{branch}
 
--- the elements from p on, as the gateway sees them
-abbrev pub from : Combining → List ℕ → ℕ → List Element
-from c d p = run (elementFor c d) p (records d - p)
+-- ---- a sum for each value from above
 
-abbrev pub elementsFor : Combining → List ℕ → List Element
-elementsFor c d = run (elementFor c d) 0 (records d)
+-- what is summed and what is ahead come to what lies below
+pub record Passed (G : Gateway) (W : ℕ) (el : ℕ → Element) (n at p : ℕ) (s : Decision → ℕ) : Type 0 where
+  pub each : (v : Decision) → s v + sums G W (ahead el n at p) v ≡ sums G W (forestBelow el n at) v
+  pub place : p + sizeF (ahead el n at p) ≡ endOf el n at
+  pub low : at + 1 ≤ p
+  pub high : p ≤ n
 
-pub from-all : (c : Combining) (d : List ℕ) → from c d 0 ≡ elementsFor c d
-from-all c d = rw sub-zero
+module _ (G : Gateway) (W : ℕ) (el : ℕ → Element) (n at : ℕ) where
+  pass-none : (s : Decision → ℕ) → at < n → ((v : Decision) → s v ≡ 0) → Passed G W el n at (at + 1) s
+  pass-none s l z = record { each = λ v. omega (arith, z v); place = refl; low = omega arith; high = omega arith }
 
--- they are the dossier's elements as it sees them
-pub elements-seen : (c : Combining) (d : List ℕ) → elementsFor c d ≡ seenAll c (elementsOf d)
-unfolding elementsOf
-elements-seen c d = sym (run-map (seenBy c) (elementAt d) 0 (records d))
+  module _ (p : ℕ) (s : Decision → ℕ) (h : Passed G W el n at p s) where
+    -- a child's branch is added
+    pass-branch : (t : Decision → ℕ) → p < n → el at .depth < el p .depth
+        → ((v : Decision) → t v ≡ s v + branch G W (el p) (from el n (p + 1)) v) → Passed G W el n at (endOf el n p) t
+    unfolding sums sizeF
+    pass-branch t l deep more =
+        let e = ahead-more el n at p l deep in
+        record {
+          each = λ v. omega (arith, ap (λ (F : Forest). sums G W F v) e, h .each v, more v);
+          place = omega (arith, ap sizeF e, h .place);
+          low = omega (arith, h .low);
+          high = omega (arith, below-in el n p);
+        }
 
--- those of them that lie below the element at `at`
-abbrev pub ahead : Combining → List ℕ → ℕ → ℕ → Forest
-ahead c d at p = under (depthAt d at) (from c d p)
+    -- nothing is ahead: what is summed is what lies below, and p is the branch's end
+    over : ahead el n at p ≡ nil → (s ≡ sums G W (forestBelow el n at)) × (p ≡ endOf el n at)
+    unfolding sums sizeF
+    over e = (
+      fun-ext (λ v. omega (arith, ap (λ (F : Forest). sums G W F v) e, h .each v)),
+      omega (arith, ap sizeF e, h .place),
+    )
 
--- ---- what is ahead
+    pass-end : n ≤ p → (s ≡ sums G W (forestBelow el n at)) × (p ≡ endOf el n at)
+    pass-end l = over (ahead-end el n at p l)
 
-module _ (c : Combining) (d : List ℕ) (at p : ℕ) where
-  ahead-end : records d ≤ p → ahead c d at p ≡ nil
-  ahead-end l = ap (under (depthAt d at)) (run-none (elementFor c d) p (records d) l) ∙ under-nil (depthAt d at)
+    pass-out : p < n → el p .depth ≤ el at .depth → (s ≡ sums G W (forestBelow el n at)) × (p ≡ endOf el n at)
+    pass-out l low = over (ahead-stop el n at p l low)
 
-  ahead-stop : p < records d → depthAt d p ≤ depthAt d at → ahead c d at p ≡ nil
-  ahead-stop l h =
-      ap (under (depthAt d at)) (run-first (elementFor c d) p (records d) l)
-      ∙ under-stop (depthAt d at) (elementFor c d p) (from c d (p + 1)) h
+    pass-most : (v : Decision) → s v ≤ n * suc W
+    pass-most v =
+        let in-all : sizeF (forestBelow el n at) ≤ n = omega (arith, below-in el n at) in
+        omega (arith, h .each v, sums-most G W (forestBelow el n at) v, mul-le-mul-right (suc W) in-all)
 
--- everything below an element is there
-below-in : (c : Combining) (d : List ℕ) (p : ℕ) → sizeF (below c d p) ≤ records d - (p + 1)
-below-in c d p = omega (arith, size-le (depthAt d p) (from c d (p + 1)), run-length (elementFor c d) (p + 1) (records d - (p + 1)))
-
--- after a branch come the elements from its end on
-after-branch : (c : Combining) (d : List ℕ) (p : ℕ) → drop (sizeF (below c d p)) (from c d (p + 1)) ≡ from c d (p + 1 + sizeF (below c d p))
-after-branch c d p =
-    let left : records d - (p + 1) - sizeF (below c d p) ≡ records d - (p + 1 + sizeF (below c d p)) = omega arith in
-    run-drop (elementFor c d) (p + 1) (sizeF (below c d p)) (records d - (p + 1)) (below-in c d p)
-    ∙ ap (run (elementFor c d) (p + 1 + sizeF (below c d p))) left
-
-ahead-more : (c : Combining) (d : List ℕ) (at p : ℕ) → p < records d → depthAt d at < depthAt d p
-    → ahead c d at p ≡ node (elementFor c d p) (below c d p) (ahead c d at (p + 1 + sizeF (below c d p)))
-ahead-more c d at p l h =
-    ap (under (depthAt d at)) (run-first (elementFor c d) p (records d) l)
-    ∙ under-node (depthAt d at) (elementFor c d p) (from c d (p + 1)) h
-    ∙ ap (λ (es : List Element). node (elementFor c d p) (below c d p) (under (depthAt d at) es)) (after-branch c d p)
-
--- ---- three sums
+-- ---- the same in three numbers
 
 of-at : (f : Decision → ℕ) (v : Decision) → sumAt (sumsOf f) v ≡ f v
 of-at f None = refl
@@ -80,53 +76,35 @@ plus-at a b None = refl
 plus-at a b Deny = refl
 plus-at a b Permit = refl
 
--- ---- the loop
+pub record Summed (c : Combining) (el : ℕ → Element) (n at p : ℕ) (s : Sums) : Type 0 where
+  pub passed : Passed (gatewayOf c) wrongCost el n at p (sumAt s)
 
--- what is summed and what is ahead come to what lies below
-pub record Summed (c : Combining) (d : List ℕ) (at p : ℕ) (s : Sums) : Type 0 where
-  pub each : (v : Decision) → sumAt s v + sums (gatewayOf c) wrongCost (ahead c d at p) v ≡ sums (gatewayOf c) wrongCost (below c d at) v
-  pub place : p + sizeF (ahead c d at p) ≡ at + 1 + sizeF (below c d at)
-  pub low : at + 1 ≤ p
-  pub high : p ≤ records d
+module _ (c : Combining) (el : ℕ → Element) (n at : ℕ) where
+  pub start : at < n → Summed c el n at (at + 1) (record { none = 0; deny = 0; permit = 0 })
+  start l = record { passed = pass-none (gatewayOf c) wrongCost el n at _ l (of-at (λ u. 0)) }
 
-pub start : (c : Combining) (d : List ℕ) (at : ℕ) → at < records d → Summed c d at (at + 1) (record { none = 0; deny = 0; permit = 0 })
-start c d at l = record { each = λ v. omega (arith, of-at (λ u. 0) v); place = refl; low = omega arith; high = omega arith }
+  module _ (p : ℕ) (s : Sums) (h : Summed c el n at p s) where
+    pub turn : p < n → el at .depth < el p .depth → Summed c el n at (branchOf c el n p .next) (plusOf s (branchOf c el n p .sums))
+    turn l deep = record {
+      passed =
+          pass-branch (gatewayOf c) wrongCost el n at p (sumAt s) (h .passed) _ l deep
+          (λ v. omega (
+            arith,
+            plus-at s (branchOf c el n p .sums) v,
+            of-at (bestBy c (el p .decision) (sums (gatewayOf c) wrongCost (forestBelow el n p))) v,
+          ));
+    }
 
-module _ (c : Combining) (d : List ℕ) (at p : ℕ) (s : Sums) (h : Summed c d at p s) where
-  pub turn : p < records d → depthAt d at < depthAt d p → Summed c d at (branchOf c d p .next) (plusOf s (branchOf c d p .sums))
-  unfolding sums sizeF
-  turn l deep =
-      let e = ahead-more c d at p l deep in
-      record {
-        each = λ v. omega (
-          arith,
-          ap (λ (F : Forest). sums (gatewayOf c) wrongCost F v) e,
-          h .each v,
-          plus-at s (branchOf c d p .sums) v,
-          of-at (bestBy c (elementFor c d p .decision) (sums (gatewayOf c) wrongCost (below c d p))) v,
-        );
-        place = omega (arith, ap sizeF e, h .place);
-        low = omega (arith, h .low);
-        high = omega (arith, below-in c d p);
-      }
+    pub over-end : n ≤ p → (sumAt s ≡ sums (gatewayOf c) wrongCost (forestBelow el n at)) × (p ≡ branchOf c el n at .next)
+    over-end = pass-end (gatewayOf c) wrongCost el n at p (sumAt s) (h .passed)
 
-  -- nothing is ahead: what is summed is what lies below, and p is the branch's end
-  over : ahead c d at p ≡ nil → (sumAt s ≡ sums (gatewayOf c) wrongCost (below c d at)) × (p ≡ branchOf c d at .next)
-  unfolding sums sizeF
-  over e = (
-    fun-ext (λ v. omega (arith, ap (λ (F : Forest). sums (gatewayOf c) wrongCost F v) e, h .each v)),
-    omega (arith, ap sizeF e, h .place),
-  )
+    pub over-out : p < n → el p .depth ≤ el at .depth
+        → (sumAt s ≡ sums (gatewayOf c) wrongCost (forestBelow el n at)) × (p ≡ branchOf c el n at .next)
+    over-out = pass-out (gatewayOf c) wrongCost el n at p (sumAt s) (h .passed)
 
-  pub over-end : records d ≤ p → (sumAt s ≡ sums (gatewayOf c) wrongCost (below c d at)) × (p ≡ branchOf c d at .next)
-  over-end l = over (ahead-end c d at p l)
+    few : n ≤ mostElements → (v : Decision) → sumAt s v ≤ mostElements * suc wrongCost
+    few in-all v =
+        omega (arith, pass-most (gatewayOf c) wrongCost el n at p (sumAt s) (h .passed) v, mul-le-mul-right (suc wrongCost) in-all)
 
-  pub over-out : p < records d → depthAt d p ≤ depthAt d at
-      → (sumAt s ≡ sums (gatewayOf c) wrongCost (below c d at)) × (p ≡ branchOf c d at .next)
-  over-out l low = over (ahead-stop c d at p l low)
-
-  few : Sound d → (v : Decision) → sumAt s v ≤ mostElements * suc wrongCost
-  few sound v = omega (arith, h .each v, sums-most (gatewayOf c) wrongCost (below c d at) v, below-in c d at, sound .few)
-
-  pub small : Sound d → Small s
-  small sound = record { none = few sound None; deny = few sound Deny; permit = few sound Permit }
+    pub small : n ≤ mostElements → Small s
+    small in-all = record { none = few in-all None; deny = few in-all Deny; permit = few in-all Permit }

@@ -3,13 +3,13 @@ use mathlib.Core.Path.{_≡_, refl, sym, ap, ap₂, subst, _∙_}
 use mathlib.Core.Logic.{_↔_}
 use Prim.Native.Nat.{ℕ}
 use native.Mathlib.Omega.{arith}
-use mathlib.Core.List.{List, [], _∷_, tail-eq-of-cons-eq}
+use mathlib.Core.List.{List, _∷_, tail-eq-of-cons-eq}
 use lib.ListN.{getD}
 use Rattle.dossier.specs.Elements.{Mark, Element, decisionNumber, decisionOf}
 use Rattle.dossier.specs.declared.Decision.{Decision}
 use Rattle.marks.proofs.Laws.{decision-number}
 use Rattle.least.specs.Least.{Answers, count}
-use Rattle.least.specs.Judging.{Holds, verdictNumbers, reportNumbers, Numbered, Judges}
+use Rattle.least.specs.Judging.{Holds, verdictNumbers, reportNumbers, Judges}
 use Rattle.least.specs.declared.Report.{Report}
 use Rattle.least.specs.declared.Verdict.{Verdict}
 use Rattle.least.specs.declared.Verdict.the-variants as verdict

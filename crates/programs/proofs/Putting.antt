@@ -1,5 +1,5 @@
 -- Texts put into an area one after the other: what is there in the end, and that there is room for each. Assumes nothing.
-use mathlib.Core.Path.{_≡_, refl, ap, ap₂, _∙_}
+use mathlib.Core.Path.{_≡_, refl, sym, ap, ap₂, _∙_}
 use Prim.Native.Nat.{ℕ, suc, _+_, _≤_, _<_}
 use native.Mathlib.Omega.{arith}
 use native.Mathlib.Numerals.{add-one}
@@ -8,26 +8,28 @@ use mathlib.Core.List.{List, [], _∷_, _++_}
 use lib.ListN.{length, take, drop, getD, set, length-append}
 use borrow.Author.Tests.{le-leb, lt-leb}
 use lib.Seq.{take-at, drop-cons, drop-length, sets, sets-eq, length-sets}
-use Rattle.dossier.proofs.Stores.{sets-more}
-use Rattle.programs.specs.Area.{areaAfter, placeAfter, Room, Puts}
+use Rattle.dossier.specs.Replies.{areaAfter}
+use Rattle.dossier.proofs.Stores.{sets-more, area-fits, area-none}
+use Rattle.programs.specs.Area.{placeAfter, Room, Puts}
 
 -- ---- a text that fits, and one that does not
 
 module _ {was : List ℕ} {at : ℕ} {text out : List ℕ} {to : ℕ} where
   -- where there is room, the text is put
   pub puts-there : Room was at text → (to ≡ placeAfter was at text) × (out ≡ areaAfter was at text) → Puts was at text out to
-  unfolding placeAfter areaAfter
-  puts-there room e =
-      let fits = le-leb (at + length text) (length was) (room .enough) in
-      record { room = room; area = simp fits at (e .1); place = simp fits at (e .0) }
+  unfolding placeAfter
+  puts-there room e = record {
+    room = room;
+    area = e .1 ∙ area-fits was at text (room .enough);
+    place = simp (le-leb (at + length text) (length was) (room .enough)) at (e .0);
+  }
 
   pub puts-place : Puts was at text out to → to ≡ placeAfter was at text
   unfolding placeAfter
   puts-place puts = simp (le-leb (at + length text) (length was) (puts .room .enough)) (puts .place)
 
   pub puts-area : Puts was at text out to → out ≡ areaAfter was at text
-  unfolding areaAfter
-  puts-area puts = simp (le-leb (at + length text) (length was) (puts .room .enough)) (puts .area)
+  puts-area puts = puts .area ∙ sym (area-fits was at text (puts .room .enough))
 
 module _ (was : List ℕ) (at : ℕ) (text : List ℕ) (none : length was < at + length text) where
   pub none-place : at ≡ placeAfter was at text
@@ -35,8 +37,7 @@ module _ (was : List ℕ) (at : ℕ) (text : List ℕ) (none : length was < at +
   none-place = simp (lt-leb (at + length text) (length was) none)
 
   pub none-area : was ≡ areaAfter was at text
-  unfolding areaAfter
-  none-area = simp (lt-leb (at + length text) (length was) none)
+  none-area = sym (area-none was at text none)
 
 -- ---- one text after the other
 

@@ -1,4 +1,4 @@
--- The laws of what stands for the whole input: counting on from it is counting on from the whole, and the reader replies to it as to the whole.
+-- The laws of what stands for the whole input: counting on from it is counting on from the whole, and the reader replies to it as to the whole. Assumes nothing.
 use mathlib.Core.Path.{_≡_, refl, sym, ap, _∙_}
 use Prim.Native.Nat.{ℕ, _+_, _*_, _%_, _≤_, _<_}
 use mathlib.Core.List.{List, _++_, append-nil}

@@ -1,19 +1,11 @@
--- A text put into an area from `at` on. Assumes nothing: these are definitions.
+-- Where a text that is put into an area from `at` on ends. Document 01, "Refusal numbers": "its other bytes are unchanged". Assumes nothing: these are definitions.
 use mathlib.Core.Path.{_≡_}
 use Prim.Native.Nat.{ℕ, _+_, _≤_}
-use mathlib.Core.Bool.{Bool, cond}
+use mathlib.Core.Bool.{cond}
 use mathlib.Core.List.{List}
 use lib.ListN.{length}
 use lib.Seq.{sets}
-use lib.Dec.{leb}
-
--- does the text fit
-abbrev pub fits : List ℕ → ℕ → List ℕ → Bool
-fits area at text = leb (at + length text) (length area)
-
--- the area with the text in it; as it was where the text does not fit
-unfoldable pub areaAfter : List ℕ → ℕ → List ℕ → List ℕ
-areaAfter area at text = cond (fits area at text) (sets area at text) area
+use Rattle.dossier.specs.Replies.{fits}
 
 -- the place after the text; where it does not fit, the place that was given
 unfoldable pub placeAfter : List ℕ → ℕ → List ℕ → ℕ

@@ -1,3 +1,4 @@
+-- The definitions of `programs`, by file. Assumes nothing.
 pub mod Standing
 pub mod Area
 pub mod Printing

@@ -1,4 +1,4 @@
--- What every program prints alike: words, numbers, an effect, a refusal. Assumes nothing: these are definitions.
+-- What every program prints alike: words, numbers, an effect, a refusal. Document 01, "What is built": "one program". Assumes nothing: these are definitions.
 use Prim.Native.Nat.{ℕ, zero, suc, _/_}
 use Prim.Native.Char.{code}
 use Prim.Native.String.{String, [] as empty, _∷_ as _then_}

@@ -1,4 +1,4 @@
--- What stands for a whole input, of which a program keeps the front: at most so many records. Assumes nothing: these are definitions.
+-- What stands for a whole input, of which a program keeps the front: at most so many records. Document 01, "Refusal numbers": 3 for an input that is too long. Assumes nothing: these are definitions.
 use mathlib.Core.Path.{_≡_}
 use Prim.Native.Nat.{ℕ, _+_, _*_, _%_, _≤_, _<_}
 use mathlib.Core.Bool.{cond}

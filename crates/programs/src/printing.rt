@@ -6,7 +6,8 @@ ghost use mathlib.Core.List.{[], _∷_, _++_};
 ghost use Prim.Native.Nat.{_≤_};
 ghost use lib.ListN.{length};
 ghost use Rattle.dossier.specs.Elements.{effectOf};
-ghost use Rattle.programs.specs.Area.{areaAfter, placeAfter, Room, Puts};
+ghost use Rattle.dossier.specs.Replies.{areaAfter};
+ghost use Rattle.programs.specs.Area.{placeAfter, Room, Puts};
 ghost use Rattle.programs.specs.Printing.{decimal, effectWord, refusalText, refusalWith, mostRefusal};
 
 // The most bytes of a refusal's line: its word, two numbers of three digits and one of twenty, and what ends them.

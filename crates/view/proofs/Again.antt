@@ -14,7 +14,7 @@ use Rattle.dossier.specs.Elements.{Element, marksOf}
 use Rattle.dossier.specs.Bytes.{records, recordAt, recordsOf, joined, elementAt, elementsOf}
 use Rattle.dossier.specs.Order.{Follows, Ordered}
 use Rattle.dossier.specs.Below.{deeper, covers}
-use Rattle.dossier.specs.Replies.{refusal, roomFor}
+use Rattle.dossier.specs.Replies.{refusal, After, roomFor}
 use Rattle.dossier.specs.Reading.{readOf, Sound}
 use Rattle.dossier.specs.declared.Decision.the-variants.{Permit, None}
 use Rattle.dossier.specs.declared.Reply.{Reply}
@@ -23,13 +23,13 @@ use Rattle.dossier.proofs.Sounds.{counted-sound, sound-counted}
 use Rattle.dossier.proofs.Runs.{run-length}
 use Rattle.marks.specs.Marks.{first}
 use Rattle.marks.specs.Walking.{walked}
-use Rattle.view.specs.View.{IsView, ViewedAfter, Views}
+use Rattle.view.specs.View.{IsView, Viewed, Views}
 use Rattle.view.specs.Inner.{atFirst, shownOf, bytesOf}
 use Rattle.view.specs.Again.{Again}
 use Rattle.view.proofs.Keeping.{keeps-unique, keeps-none}
 use Rattle.view.proofs.Passes.{few, bytes-long}
 use Rattle.view.proofs.Belongs.{shown-view}
-use Rattle.view.proofs.Places.{places, places-shown, places-there, places-ordered}
+use Rattle.view.proofs.Places.{shownPlaces, places-shown, places-there, places-ordered}
 use Rattle.view.proofs.Taken.{taken-sound}
 
 -- ---- a root that is not permitted
@@ -57,7 +57,7 @@ unfolding shownOf
 shown-sound d s l = rw (same, joined-map (recordAt d) ps) (⊎-elim none ordered (places-ordered d (records d) s (omega arith)))
   where
     ps : List ℕ
-    ps = places atFirst d 0 (records d)
+    ps = shownPlaces atFirst d 0 (records d)
 
     same : shownOf d ≡ map (recordAt d) ps
     same = sym (places-shown atFirst d 0 (records d))
@@ -86,7 +86,7 @@ module _ (d : List ℕ) (s : Sound d) (shown : List (List ℕ)) (v : IsView d sh
   all-hidden n =
       keeps-none v (λ j l b. n (b 0 (root-covers (elementsOf d) j (s .order) (omega (arith, run-length (recordAt d) 0 (records d), run-length (elementAt d) 0 (records d))))))
 
-  pub view-again : Again d shown
+  view-again : Again d shown
   view-again =
       let sound : 0 < length shown → Sound (joined (λ r. r) shown) = λ l. rw same-shown (shown-sound d s (omega (arith, ap length same-shown))) in
       record {
@@ -106,7 +106,7 @@ room-count m area {n} e = go (ltb (length area) (m * width)) e
     go true e = let z : _≡_ {A = ℕ} 0 1 = cc in let y : ⊥ = omega arith in absurd y
     go false e = cc
 
-after-again : (read : Reply) (d area : List ℕ) (n : ℕ) (new : List ℕ) → readOf d ≡ read → ViewedAfter read d area (Count n) new → 0 < n
+after-again : (read : Reply) (d area : List ℕ) (n : ℕ) (new : List ℕ) → readOf d ≡ read → After Refused read area (Viewed d area) (Count n) new → 0 < n
     → readOf (take (n * width) new) ≡ Count n
 after-again (Count k) d area n new e v l =
     let s : Sound d = counted-sound d k e in

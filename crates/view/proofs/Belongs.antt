@@ -19,7 +19,7 @@ use Rattle.view.specs.Inner.{Memory, atFirst, noLimit, shows, after, sho
 use Rattle.view.proofs.Keeping.{keeps-iff, keeps-shift}
 use Rattle.view.proofs.Remembering.{below-hidden, lets-in, keeps-out, Turn, passed, let-in, kept-out, turn}
 use Rattle.view.proofs.Above.{Open, hidden-first, hidden-rest, permitted-first, permitted-rest, denied-first, denied-rest}
-use Rattle.view.proofs.Seeing.{Sees, sees-first, answer, next, sees-hidden, sees-answer, sees-next}
+use Rattle.view.proofs.Seeing.{Sees, sees-first, seenAnswer, next, sees-hidden, sees-answer, sees-next}
 
 -- the walk's answers from record i on
 abbrev answers : List ℕ → List Decision → ℕ → ℕ → List Decision
@@ -44,7 +44,7 @@ module _ (d : List ℕ) (i n : ℕ) (m : Memory) (st : List Decision) (at : Sees
   es = run (elementAt d) (suc i) n
 
   abbrev given : Decision
-  given = answer d i at s there
+  given = seenAnswer d i at s there
 
   abbrev st′ : List Decision
   st′ = next d i at s there

@@ -1,3 +1,4 @@
+-- The proofs of `view`, by file. Assumes nothing.
 pub mod Writing
 pub mod Remembering
 pub mod Passes

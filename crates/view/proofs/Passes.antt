@@ -15,29 +15,29 @@ use Rattle.dossier.proofs.Stores.{sets-more}
 use Rattle.dossier.proofs.Alone.{record-long}
 
 -- what is left to show from record i on
-unfoldable pub rest : Memory → List ℕ → ℕ → List (List ℕ)
-rest m d i = shownFrom m d i (records d - i)
+unfoldable pub shownRest : Memory → List ℕ → ℕ → List (List ℕ)
+shownRest m d i = shownFrom m d i (records d - i)
 
-pub rest-first : (d : List ℕ) → rest atFirst d 0 ≡ shownOf d
-unfolding rest shownOf
+pub rest-first : (d : List ℕ) → shownRest atFirst d 0 ≡ shownOf d
+unfolding shownRest shownOf
 rest-first d = rw sub-zero
 
-pub rest-none : (m : Memory) (d : List ℕ) (i : ℕ) → records d ≤ i → rest m d i ≡ []
-unfolding rest shownFrom
+pub rest-none : (m : Memory) (d : List ℕ) (i : ℕ) → records d ≤ i → shownRest m d i ≡ []
+unfolding shownRest shownFrom
 rest-none m d i l = let e : records d - i ≡ 0 = omega arith in rw e
 
 -- with nothing left to show, no place is needed, and what is written stays
-pub bytes-none : (m : Memory) (d : List ℕ) (i : ℕ) → records d ≤ i → length (bytesOf (rest m d i)) ≡ 0
+pub bytes-none : (m : Memory) (d : List ℕ) (i : ℕ) → records d ≤ i → length (bytesOf (shownRest m d i)) ≡ 0
 unfolding bytesOf
 bytes-none m d i l = rw (rest-none m d i l)
 
-pub written-all : (m : Memory) (d : List ℕ) (i : ℕ) (out : List ℕ) (at : ℕ) → records d ≤ i → sets out at (bytesOf (rest m d i)) ≡ out
+pub written-all : (m : Memory) (d : List ℕ) (i : ℕ) (out : List ℕ) (at : ℕ) → records d ≤ i → sets out at (bytesOf (shownRest m d i)) ≡ out
 unfolding bytesOf
 written-all m d i out at l = rw (rest-none m d i l)
 
 rest-next : (m : Memory) (d : List ℕ) (i : ℕ) → i < records d
-    → rest m d i ≡ cond (shows m d i) (recordAt d i ∷ rest (after m d i) d (i + 1)) (rest (after m d i) d (i + 1))
-unfolding rest shownFrom
+    → shownRest m d i ≡ cond (shows m d i) (recordAt d i ∷ shownRest (after m d i) d (i + 1)) (shownRest (after m d i) d (i + 1))
+unfolding shownRest shownFrom
 rest-next m d i l = let e : records d - i ≡ suc (records d - (i + 1)) = omega arith in rw (e, add-one)
 
 -- no more are shown than there are
@@ -87,25 +87,25 @@ module _ (d : List ℕ) (i : ℕ) {b : Bool} where
 -- ---- one record, where the test said `b` and left `m′`
 
 module _ (m : Memory) (d : List ℕ) (i : ℕ) {m′ : Memory} {b : Bool} (l : i < records d) (p : b ≡ shows m d i) (q : m′ ≡ after m d i) where
-  pub counted-next : length (rest m d i) ≡ cond b 1 0 + length (rest m′ d (i + 1))
-  counted-next = ap length (rest-next m d i l) ∙ rw (← p, ← q) (go b (recordAt d i) (rest m′ d (i + 1)))
+  pub counted-next : length (shownRest m d i) ≡ cond b 1 0 + length (shownRest m′ d (i + 1))
+  counted-next = ap length (rest-next m d i l) ∙ rw (← p, ← q) (go b (recordAt d i) (shownRest m′ d (i + 1)))
     where
       go : (t : Bool) (r : List ℕ) (rs : List (List ℕ)) → length (cond t (r ∷ rs) rs) ≡ cond t 1 0 + length rs
       go true r rs = omega arith
       go false r rs = omega arith
 
-  pub bytes-next : bytesOf (rest m d i) ≡ bytesIf b d i ++ bytesOf (rest m′ d (i + 1))
+  bytes-next : bytesOf (shownRest m d i) ≡ bytesIf b d i ++ bytesOf (shownRest m′ d (i + 1))
   unfolding bytesOf bytesIf
-  bytes-next = ap bytesOf (rest-next m d i l) ∙ rw (← p, ← q) (go b (recordAt d i) (rest m′ d (i + 1)))
+  bytes-next = ap bytesOf (rest-next m d i l) ∙ rw (← p, ← q) (go b (recordAt d i) (shownRest m′ d (i + 1)))
     where
       go : (t : Bool) (r : List ℕ) (rs : List (List ℕ)) → joined (λ x. x) (cond t (r ∷ rs) rs) ≡ cond t r [] ++ joined (λ x. x) rs
       go true r rs = refl
       go false r rs = refl
 
-  pub length-next : length (bytesOf (rest m d i)) ≡ length (bytesIf b d i) + length (bytesOf (rest m′ d (i + 1)))
-  length-next = ap length bytes-next ∙ length-append (bytesIf b d i) (bytesOf (rest m′ d (i + 1)))
+  pub length-next : length (bytesOf (shownRest m d i)) ≡ length (bytesIf b d i) + length (bytesOf (shownRest m′ d (i + 1)))
+  length-next = ap length bytes-next ∙ length-append (bytesIf b d i) (bytesOf (shownRest m′ d (i + 1)))
 
   -- what is left to write, written from its place on
   pub written-next : (out : List ℕ) (at : ℕ) {out′ : List ℕ} {at′ : ℕ} → out′ ≡ sets out at (bytesIf b d i) → at′ ≡ at + length (bytesIf b d i)
-      → sets out′ at′ (bytesOf (rest m′ d (i + 1))) ≡ sets out at (bytesOf (rest m d i))
-  written-next out at s t = rw (s, t, bytes-next) (sets-more out at (bytesIf b d i) (bytesOf (rest m′ d (i + 1))))
+      → sets out′ at′ (bytesOf (shownRest m′ d (i + 1))) ≡ sets out at (bytesOf (shownRest m d i))
+  written-next out at s t = rw (s, t, bytes-next) (sets-more out at (bytesIf b d i) (bytesOf (shownRest m′ d (i + 1))))

@@ -15,18 +15,18 @@ module _ (m : Memory) (d : List ℕ) (i : ℕ) where
   abbrev pub answerNumber : ℕ
   answerNumber = lentAnswer (m .handed) (depthAt d i) (byteOf d i 1) (byteOf d i 2)
 
-  abbrev pub handedOn : List ℕ
-  handedOn = lentAfter (m .handed) (depthAt d i) (byteOf d i 1) (byteOf d i 2)
+  abbrev pub lentBy : List ℕ
+  lentBy = lentAfter (m .handed) (depthAt d i) (byteOf d i 1) (byteOf d i 2)
 
   pub below-hidden : m .limit < depthAt d i → (shows m d i ≡ false) × (after m d i ≡ m)
   unfolding hidden shows after
   below-hidden l = simp (lt-ltb (m .limit) (depthAt d i) l) (refl, refl)
 
-  pub lets-in : depthAt d i ≤ m .limit → answerNumber ≡ 1 → (shows m d i ≡ true) × (after m d i ≡ memory handedOn noLimit)
+  pub lets-in : depthAt d i ≤ m .limit → answerNumber ≡ 1 → (shows m d i ≡ true) × (after m d i ≡ memory lentBy noLimit)
   unfolding hidden permitted shows after
   lets-in l e = simp (le-ltb (m .limit) (depthAt d i) l, eq-eqb answerNumber 1 e) (refl, refl)
 
-  pub keeps-out : depthAt d i ≤ m .limit → (answerNumber ≡ 1 → ⊥) → (shows m d i ≡ false) × (after m d i ≡ memory handedOn (depthAt d i))
+  pub keeps-out : depthAt d i ≤ m .limit → (answerNumber ≡ 1 → ⊥) → (shows m d i ≡ false) × (after m d i ≡ memory lentBy (depthAt d i))
   unfolding hidden permitted shows after
   keeps-out l n = simp (le-ltb (m .limit) (depthAt d i) l, ne-eqb answerNumber 1 n) (refl, refl)
 
@@ -54,7 +54,7 @@ module _ (m : Memory) (d : List ℕ) (i k : ℕ) (read : k ≡ depthAt d i) wher
     number : r ≡ answerNumber m d i
     number = answers ∙ ap (λ (x : ℕ). lentAnswer (m .handed) x (byteOf d i 1) (byteOf d i 2)) read
 
-    handed : h ≡ handedOn m d i
+    handed : h ≡ lentBy m d i
     handed = hands ∙ ap (λ (x : ℕ). lentAfter (m .handed) x (byteOf d i 1) (byteOf d i 2)) read
 
     pub reads-permit : r ≡ 1 → (true ≡ shows m d i) × (memory h noLimit ≡ after m d i)

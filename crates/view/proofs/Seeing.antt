@@ -16,9 +16,9 @@ use Rattle.dossier.proofs.Sounds.{sound-free}
 use Rattle.marks.specs.Marks.{firstAnswer, firstHand}
 use Rattle.marks.specs.Walking.{above, close}
 use Rattle.marks.proofs.Opened.{close-length, close-agree}
-use Rattle.marks.proofs.Lending.{Holds, lent-answer, lent-after, lent-length}
+use Rattle.marks.proofs.Lending.{HoldsOpen, lent-answer, lent-after, lent-length}
 use Rattle.view.specs.Inner.{Memory, memory, atFirst}
-use Rattle.view.proofs.Remembering.{answerNumber, handedOn}
+use Rattle.view.proofs.Remembering.{answerNumber, lentBy}
 
 pub record Sees (d : List ℕ) (i : ℕ) (m : Memory) (st : List Decision) : Type 0 where
   pub long : length (m .handed) ≡ suc deepest
@@ -31,8 +31,8 @@ sees-first d = record { long = refl; opened = refl; holds = λ k a b. absurd (om
 
 module _ (d : List ℕ) (i : ℕ) {m : Memory} {st : List Decision} (at : Sees d i m st) (s : Sound d) (l : i < records d) where
   -- what the walk answers, and what it then hands down
-  abbrev pub answer : Decision
-  answer = firstAnswer (elementAt d i .mark) (elementAt d i .decision) (above st (depthAt d i))
+  abbrev pub seenAnswer : Decision
+  seenAnswer = firstAnswer (elementAt d i .mark) (elementAt d i .decision) (above st (depthAt d i))
 
   abbrev hand : Decision
   hand = firstHand (elementAt d i .mark) (elementAt d i .decision) (above st (depthAt d i))
@@ -69,7 +69,7 @@ module _ (d : List ℕ) (i : ℕ) {m : Memory} {st : List Decision} (at : Sees d
     before-length : length before ≡ depthAt d i
     before-length = length-take-le (depthAt d i) st under
 
-    before-holds : Holds (m .handed) before
+    before-holds : HoldsOpen (m .handed) before
     before-holds = record {
       at = λ k b.
           let c : k < depthAt d i = omega (arith, before-length) in
@@ -81,18 +81,18 @@ module _ (d : List ℕ) (i : ℕ) {m : Memory} {st : List Decision} (at : Sees d
     before-above (suc k) g = getD-take (depthAt d i) st k None g
 
     -- the answer is the walk's
-    pub sees-answer : answerNumber m d i ≡ decisionNumber answer
+    pub sees-answer : answerNumber m d i ≡ decisionNumber seenAnswer
     sees-answer =
         lent-answer before-holds (depthAt d i) (byteOf d i 1) (byteOf d i 2) (omega (arith, before-length))
         ∙ rw (before-above (depthAt d i) (omega arith))
 
-    next-holds : Holds (handedOn m d i) next
+    next-holds : HoldsOpen (lentBy m d i) next
     next-holds =
         rw (before-above (depthAt d i) (omega arith), take-take (depthAt d i) (depthAt d i) st (omega arith)) at
         (lent-after before-holds (depthAt d i) (byteOf d i 1) (byteOf d i 2) (omega (arith, before-length)) (omega (arith, at .long, s .shallow i l)))
 
     -- and so is what is remembered, up to any limit
-    pub sees-next : (limit : ℕ) → Sees d (suc i) (memory (handedOn m d i) limit) next
+    pub sees-next : (limit : ℕ) → Sees d (suc i) (memory (lentBy m d i) limit) next
     sees-next limit = record {
       long = lent-length (m .handed) (depthAt d i) (byteOf d i 1) (byteOf d i 2) ∙ at .long;
       opened = opened-next;

@@ -1,4 +1,4 @@
--- What is promised of every view of a sound dossier: what was sent can be read again. Assumes nothing: these are definitions.
+-- What is promised of every view of a sound dossier: what was sent can be read again. Document 01, "The recipient's view". Assumes nothing: these are definitions.
 use mathlib.Core.Path.{_≡_}
 use mathlib.Core.Logic.{_≢_}
 use Prim.Native.Nat.{ℕ, _<_}

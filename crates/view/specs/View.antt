@@ -1,4 +1,4 @@
--- The recipient's view: which elements belong in it, what is replied, and what the area then holds. Assumes nothing: these are definitions.
+-- The recipient's view: which elements belong in it, what is replied, and what the area then holds. Document 01, "The recipient's view". Assumes nothing: these are definitions.
 use mathlib.Core.Path.{_≡_}
 use Prim.Native.Nat.{ℕ, suc}
 use mathlib.Core.Bool.{true}
@@ -7,12 +7,12 @@ use lib.ListN.{length, getD}
 use Rattle.dossier.specs.Elements.{Element, marksOf}
 use Rattle.dossier.specs.Bytes.{recordsOf, joined, elementsOf}
 use Rattle.dossier.specs.Below.{covers}
-use Rattle.dossier.specs.Replies.{afterwards, roomFor, fronted}
+use Rattle.dossier.specs.Replies.{afterwards, After, roomFor, fronted}
 use Rattle.dossier.specs.Reading.{readOf}
 use Rattle.dossier.specs.declared.Decision.{Decision}
 use Rattle.dossier.specs.declared.Decision.the-variants.{Permit, None}
 use Rattle.dossier.specs.declared.Reply.{Reply}
-use Rattle.dossier.specs.declared.Reply.the-variants.{Count, Refused}
+use Rattle.dossier.specs.declared.Reply.the-variants.{Refused}
 use Rattle.marks.specs.Marks.{first}
 use Rattle.marks.specs.Walking.{walked}
 
@@ -38,9 +38,5 @@ pub record Viewed (d area : List ℕ) (reply : Reply) (new : List ℕ) : Type 0 
   pub written : new ≡ afterwards reply area (fronted area (joined (λ r. r) shown))
 
 -- 1 to 6, and nothing is written; or the view
-abbrev pub ViewedAfter : Reply → List ℕ → List ℕ → Reply → List ℕ → Type 0
-ViewedAfter (Count n) d area reply new = Viewed d area reply new
-ViewedAfter (Refused f) d area reply new = (reply ≡ Refused f) × (new ≡ area)
-
 abbrev pub Views : List ℕ → List ℕ → Reply → List ℕ → Type 0
-Views d area reply new = ViewedAfter (readOf d) d area reply new
+Views d area reply new = After Refused (readOf d) area (Viewed d area) reply new

@@ -68,22 +68,17 @@ fn put(d: &[u8], i: usize, out: &mut [u8], at: usize)
     ensures { λ _. ⌜ now (out .exit) ≡ sets (now (out .entry)) at (recordAt (now (d .entry)) i) ⌝ }
 {
     let from = i * WIDTH;
-    let b0 = d[from];
-    let b1 = d[from + 1];
-    let b2 = d[from + 2];
-    let b3 = d[from + 3];
-    let b4 = d[from + 4];
-    let b5 = d[from + 5];
-    let b6 = d[from + 6];
-    let b7 = d[from + 7];
-    out[at] = b0;
-    out[at + 1] = b1;
-    out[at + 2] = b2;
-    out[at + 3] = b3;
-    out[at + 4] = b4;
-    out[at + 5] = b5;
-    out[at + 6] = b6;
-    out[at + 7] = b7;
+    let bytes = [
+        d[from],
+        d[from + 1],
+        d[from + 2],
+        d[from + 3],
+        d[from + 4],
+        d[from + 5],
+        d[from + 6],
+        d[from + 7],
+    ];
+    dossier::store(out, at, bytes);
 }
 
 // The same only where the record belongs in the view; the place behind what was written.

@@ -1,4 +1,4 @@
--- `answer` meets its contract: what is put is the text of the folder's reply.
+-- `answer` meets its contract: what is put is the text of the folder's reply. Assumes nothing.
 use native.Mathlib.Omega.{arith}
 use Rattle.programs.proofs.Putting.{puts-there}
 use Rattle.front.proofs.Replies.{folded-short, answered}

@@ -1,4 +1,4 @@
--- `list` meets its contract: the lister counts the rules, and those are put.
+-- `list` meets its contract: the lister counts the rules, and those are put. Assumes nothing.
 use Rattle.front.proofs.Replies.{list-never, part-within, part-room, part-puts}
 use mathlib.Core.Path.{sym}
 use native.Mathlib.Omega.{arith}

@@ -1,4 +1,4 @@
--- `run` meets its contract: the parts that it hands on lie within the areas.
+-- `run` meets its contract: the parts that it hands on lie within the areas. Assumes nothing.
 use mathlib.Core.Path.{sym}
 use lib.Seq.{length-take-le}
 use borrow.Author.Needs.{needs}

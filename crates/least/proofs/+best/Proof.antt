@@ -4,7 +4,10 @@ use Prim.Native.Nat.{ℕ, _+_, _-_, _≤_, _<_}
 use native.Mathlib.Omega.{arith}
 use borrow.Author.Needs.{needs}
 use mathlib.Core.Logic.{⊎-elim}
+use mathlib.Core.List.{List}
+use Rattle.dossier.specs.Limits.{mostElements}
 use Rattle.dossier.specs.Bytes.{records}
+use Rattle.dossier.specs.Reading.{Sound}
 use Rattle.least.specs.declared.choosing.Sums.{Sums}
 use Rattle.least.specs.declared.Branch.{Branch}
 use Rattle.least.specs.declared.choosing.Chosen.{Chosen}
@@ -30,6 +33,10 @@ deeper p q h = omega arith
 no-deeper : {x y k l : ℕ} → x ≡ k → y ≡ l → y ≤ x → l ≤ k
 no-deeper p q h = omega arith
 
+-- a sound dossier has at most the most elements
+few-in : {d : List ℕ} → Sound d → records d ≤ mostElements
+few-in s = omega (arith, s .few)
+
 abbrev branch-of : Sums → ℕ → Branch
 branch-of s n = record { sums = s; next = n }
 
@@ -46,7 +53,9 @@ abbrev claims : ℕ → best-lts.Claims
 claims t = (depth-reads.Asked, depth-reads.Learnt, best-below t, best.Post, plus-reads.Asked, plus-reads.Learnt, choose-reads.Asked, choose-reads.Learnt)
 
 abbrev best-Inv-loop : best-lts.InvT-loop
-best-Inv-loop d plan₀ combining at left count depth sums₀ p₀ plan sums p = Summed (combiningOf combining) d at p sums × Planned (combiningOf combining) d (at + 1) p plan₀ plan
+best-Inv-loop d plan₀ combining at left count depth sums₀ p₀ plan sums p =
+    Summed (combiningOf combining) (elementFor (combiningOf combining) d) (records d) at p sums
+    × Planned (combiningOf combining) (elementFor (combiningOf combining) d) (records d) (at + 1) p plan₀ plan
 
 abbrev best-μ-loop : best-lts.MeasureT-loop
 best-μ-loop d plan₀ combining at left count depth sums₀ p₀ plan sums p = records d - p
@@ -58,7 +67,7 @@ best-add-p : (t : ℕ) → best-lts.Need-add-p (claims t) (best-at t) best.Post 
 best-add-p t c = omega arith
 
 best-loop-holds : (t : ℕ) → best-lts.Need-loop-holds (claims t) (best-at t) best.Post best-Inv-loop best-μ-loop
-best-loop-holds t c = (start _ _ _ (c .before .before .pre .1 .there), planned-none _ _ _ _)
+best-loop-holds t c = (start _ _ _ _ (c .before .before .pre .1 .there), planned-none _ _ _ _ _)
 
 best-depth-requires-2 : (t : ℕ) → best-lts.Need-depth-requires-2 (claims t) (best-at t) best.Post best-Inv-loop best-μ-loop
 best-depth-requires-2 t c κs = search needs
@@ -79,22 +88,23 @@ best-best-requires t c κs =
     (omega arith, record { sound = ready .sound; there = there; enough = omega arith; room = omega arith })
 
 -- a child's branch is summed
-turned : (t : ℕ) (c : best-lts.After-best (claims t) (best-at t) best.Post best-Inv-loop best-μ-loop)
+summed-next : (t : ℕ) (c : best-lts.After-best (claims t) (best-at t) best.Post best-Inv-loop best-μ-loop)
     → Summed
     (combiningOf (c .before .before .before .before .before .before .before .before .args .combining))
-    (c .before .before .before .before .before .before .before .before .args .d .now)
+    (elementFor (combiningOf (c .before .before .before .before .before .before .before .before .args .combining)) (c .before .before .before .before .before .before .before .before .args .d .now))
+    (records (c .before .before .before .before .before .before .before .before .args .d .now))
     (c .before .before .before .before .before .before .before .before .args .at)
     (c .best .result .next)
     (plusOf (c .before .before .before .before .before .loop .sums) (c .best .result .sums))
-turned t c =
+summed-next t c =
     rw (c .best .ensures .0)
-    (turn _ _ _ _ _ (c .before .before .before .before .before .loop .inv .0) (c .before .before .before .before .loop-test .taken)
+    (turn _ _ _ _ _ _ (c .before .before .before .before .before .loop .inv .0) (c .before .before .before .before .loop-test .taken)
     (deeper (c .before .before .before .before .before .before .depth .ensures) (c .before .before .before .depth2 .ensures) (c .before .before .if1 .left)))
 
 best-plus-requires : (t : ℕ) → best-lts.Need-plus-requires (claims t) (best-at t) best.Post best-Inv-loop best-μ-loop
 best-plus-requires t c κs =
     let s = c .before .before .before .before .before .before .before .before .before in
-    small _ _ _ _ _ (turned t (c .before)) (s .pre .1 .sound)
+    small _ _ _ _ _ _ (summed-next t (c .before)) (few-in (s .pre .1 .sound))
 
 best-loop-less : (t : ℕ) → best-lts.Need-loop-less (claims t) (best-at t) best.Post best-Inv-loop best-μ-loop
 best-loop-less t c = omega (arith, ap (λ (b : Branch). b .next) (c .before .before .best .ensures .0))
@@ -104,8 +114,8 @@ best-loop-again t c =
     let called = c .before .before in
     let inv = called .before .before .before .before .before .loop .inv in
     let next = ap (λ (b : Branch). b .next) (called .best .ensures .0) in (
-      rw (c .plus .ensures) (turned t called),
-      rw (called .best .ensures .0) (planned-more _ _ _ _ _ _ _ _ (inv .0 .low) (omega arith) (inv .1) (called .best .ensures .1)),
+      rw (c .plus .ensures) (summed-next t called),
+      rw (called .best .ensures .0) (planned-more _ _ _ _ _ _ _ _ _ (inv .0 .passed .low) (omega arith) (inv .1) (called .best .ensures .1)),
     )
 
 best-mul-choose : (t : ℕ) → best-lts.Need-mul-choose (claims t) (best-at t) best.Post best-Inv-loop best-μ-loop
@@ -121,7 +131,7 @@ best-choose-requires : (t : ℕ) → best-lts.Need-choose-requires (claims t) (b
 best-choose-requires t c κs =
     let s = c .before .before .before .before .before in
     let ready = s .pre .1 in
-    (ready .sound .decisions (s .args .at) (ready .there), small _ _ _ _ _ (c .before .before .loop .inv .0) (ready .sound))
+    (ready .sound .decisions (s .args .at) (ready .there), small _ _ _ _ _ _ (c .before .before .loop .inv .0) (few-in (ready .sound)))
 
 best-element-write-plan : (t : ℕ) → best-lts.Need-element-write-plan (claims t) (best-at t) best.Post best-Inv-loop best-μ-loop
 best-element-write-plan t c = omega arith
@@ -133,13 +143,13 @@ best-returns t c =
     let at = s .args .at in
     let inv = c .before .before .before .before .loop .inv in
     let over = ⊎-elim
-    (λ w. over-end _ _ _ _ _ (inv .0) (w .left))
-    (λ w. over-out _ _ _ _ _ (inv .0) (w .0 .taken) (no-deeper (c .before .before .before .before .before .depth .ensures) (w .1 .ensures) (w .2 .taken)))
+    (λ w. over-end _ _ _ _ _ _ (inv .0) (w .left))
+    (λ w. over-out _ _ _ _ _ _ (inv .0) (w .0 .taken) (no-deeper (c .before .before .before .before .before .depth .ensures) (w .1 .ensures) (w .2 .taken)))
     (c .before .before .before .loop-test .came) in
     let chosen = c .before .choose .ensures ∙ ap (chosenOf (combiningOf (s .args .combining)) (elementFor (combiningOf (s .args .combining)) d at .decision)) (over .0) in
-    let planned = subst (λ (n : ℕ). Planned (combiningOf (s .args .combining)) d (at + 1) n (s .args .plan .now) (c .before .before .before .before .loop .plan)) (over .1) (inv .1) in (
+    let planned = subst (λ (n : ℕ). Planned (combiningOf (s .args .combining)) (elementFor (combiningOf (s .args .combining)) d) (records d) (at + 1) n (s .args .plan .now) (c .before .before .before .before .loop .plan)) (over .1) (inv .1) in (
       ap₂ branch-of (ap (λ (x : Chosen). x .sums) chosen) (over .1),
-      planned-first _ _ _ _ _ _ _ (omega arith) (omega arith) (ap (λ (x : Chosen). x .marks) chosen) planned,
+      planned-first _ _ _ _ _ _ _ _ (omega arith) (omega arith) (ap (λ (x : Chosen). x .marks) chosen) planned,
     )
 
 pub +best-spec : {M : Type 1} → statement M

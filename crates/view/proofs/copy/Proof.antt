@@ -8,14 +8,14 @@ use lib.Seq.{sets, length-sets}
 use Rattle.dossier.specs.Bytes.{records}
 use Rattle.view.specs.Inner.{memory, atFirst, shownOf, bytesOf}
 use Rattle.dossier.proofs.Stores.{sets-long}
-use Rattle.view.proofs.Passes.{rest, rest-first, bytes-none, written-all, bytes-long, length-next, written-next}
+use Rattle.view.proofs.Passes.{shownRest, rest-first, bytes-none, written-all, bytes-long, length-next, written-next}
 use Rattle.view.proofs.copy.Statement.{statement}
 use Rattle.view.proofs.copy.Tie as tie
 
 abbrev Inv-loop : tie.InvT-loop
 Inv-loop d out₀ n handed₀ limit₀ at₀ i₀ out handed limit at i =
-    (i ≤ records d) × (length handed ≡ length (atFirst .handed)) × (at + length (bytesOf (rest (memory handed limit) d i)) ≡ length (bytesOf (shownOf d)))
-    × (sets out at (bytesOf (rest (memory handed limit) d i)) ≡ sets out₀ 0 (bytesOf (shownOf d)))
+    (i ≤ records d) × (length handed ≡ length (atFirst .handed)) × (at + length (bytesOf (shownRest (memory handed limit) d i)) ≡ length (bytesOf (shownOf d)))
+    × (sets out at (bytesOf (shownRest (memory handed limit) d i)) ≡ sets out₀ 0 (bytesOf (shownOf d)))
 
 abbrev μ-loop : tie.MeasureT-loop
 μ-loop d out₀ n handed₀ limit₀ at₀ i₀ out handed limit at i = records d - i
@@ -38,7 +38,7 @@ put-if-requires c κs =
     let more = c .before .before .before .before .before .loop-test .taken in
     let e = length-next (memory (at .handed) (at .limit)) d (at .i) more (c .before .before .shown .ensures .0) (c .before .before .shown .ensures .1) in
     let s = c .before .before .before .before .before .before .before .before .before in
-    (more, omega (arith, at .inv .2, e, s .pre, bytes-long d, sets-long (at .out) (s .args .out .now) (at .at) 0 (bytesOf (rest (memory (at .handed) (at .limit)) d (at .i))) (bytesOf (shownOf d)) (at .inv .3)))
+    (more, omega (arith, at .inv .2, e, s .pre, bytes-long d, sets-long (at .out) (s .args .out .now) (at .at) 0 (bytesOf (shownRest (memory (at .handed) (at .limit)) d (at .i))) (bytesOf (shownOf d)) (at .inv .3)))
 
 add-i : tie.Need-add-i Inv-loop μ-loop
 add-i c = omega arith

@@ -7,13 +7,13 @@ use native.Mathlib.Omega.{arith}
 use lib.ListN.{length}
 use Rattle.dossier.specs.Bytes.{records}
 use Rattle.view.specs.Inner.{memory, atFirst, shownOf}
-use Rattle.view.proofs.Passes.{rest, rest-first, rest-none, counted-next}
+use Rattle.view.proofs.Passes.{shownRest, rest-first, rest-none, counted-next}
 use Rattle.view.proofs.count.Statement.{statement}
 use Rattle.view.proofs.count.Tie as tie
 
 abbrev Inv-loop : tie.InvT-loop
 Inv-loop d n handed₀ limit₀ sum₀ i₀ handed limit sum i =
-    (i ≤ records d) × (sum ≤ i) × (length handed ≡ length (atFirst .handed)) × (sum + length (rest (memory handed limit) d i) ≡ length (shownOf d))
+    (i ≤ records d) × (sum ≤ i) × (length handed ≡ length (atFirst .handed)) × (sum + length (shownRest (memory handed limit) d i) ≡ length (shownOf d))
 
 abbrev μ-loop : tie.MeasureT-loop
 μ-loop d n handed₀ limit₀ sum₀ i₀ handed limit sum i = records d - i

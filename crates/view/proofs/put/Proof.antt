@@ -1,7 +1,5 @@
 -- `view::put` meets its contract. Assumes nothing.
-use native.Mathlib.Omega.{arith}
-use lib.ListN.{length-set}
-use Rattle.view.proofs.Writing.{stores}
+use Rattle.view.proofs.Writing.{stored}
 use borrow.Author.Needs.{needs}
 use Rattle.view.proofs.put.Statement.{statement}
 use Rattle.view.proofs.put.Tie as tie
@@ -9,138 +7,82 @@ use Rattle.view.proofs.put.Tie as tie
 mul-from : tie.Need-mul-from
 mul-from c = search needs
 
-shared-slice-read-b0 : tie.Need-shared-slice-read-b0
-shared-slice-read-b0 c = search needs
+shared-slice-read-t8 : tie.Need-shared-slice-read-t8
+shared-slice-read-t8 c = search needs
 
-add-b1 : tie.Need-add-b1
-add-b1 c = search needs
+add-t9 : tie.Need-add-t9
+add-t9 c = search needs
 
-shared-slice-read-b1 : tie.Need-shared-slice-read-b1
-shared-slice-read-b1 c = search needs
+shared-slice-read-t11 : tie.Need-shared-slice-read-t11
+shared-slice-read-t11 c = search needs
 
-add-b2 : tie.Need-add-b2
-add-b2 c = search needs
+add-t12 : tie.Need-add-t12
+add-t12 c = search needs
 
-shared-slice-read-b2 : tie.Need-shared-slice-read-b2
-shared-slice-read-b2 c = search needs
+shared-slice-read-t14 : tie.Need-shared-slice-read-t14
+shared-slice-read-t14 c = search needs
 
-add-b3 : tie.Need-add-b3
-add-b3 c = search needs
+add-t15 : tie.Need-add-t15
+add-t15 c = search needs
 
-shared-slice-read-b3 : tie.Need-shared-slice-read-b3
-shared-slice-read-b3 c = search needs
+shared-slice-read-t17 : tie.Need-shared-slice-read-t17
+shared-slice-read-t17 c = search needs
 
-add-b4 : tie.Need-add-b4
-add-b4 c = search needs
+add-t18 : tie.Need-add-t18
+add-t18 c = search needs
 
-shared-slice-read-b4 : tie.Need-shared-slice-read-b4
-shared-slice-read-b4 c = search needs
+shared-slice-read-t20 : tie.Need-shared-slice-read-t20
+shared-slice-read-t20 c = search needs
 
-add-b5 : tie.Need-add-b5
-add-b5 c = search needs
+add-t21 : tie.Need-add-t21
+add-t21 c = search needs
 
-shared-slice-read-b5 : tie.Need-shared-slice-read-b5
-shared-slice-read-b5 c = search needs
+shared-slice-read-t23 : tie.Need-shared-slice-read-t23
+shared-slice-read-t23 c = search needs
 
-add-b6 : tie.Need-add-b6
-add-b6 c = search needs
+add-t24 : tie.Need-add-t24
+add-t24 c = search needs
 
-shared-slice-read-b6 : tie.Need-shared-slice-read-b6
-shared-slice-read-b6 c = search needs
+shared-slice-read-t26 : tie.Need-shared-slice-read-t26
+shared-slice-read-t26 c = search needs
 
-add-b7 : tie.Need-add-b7
-add-b7 c = search needs
+add-t27 : tie.Need-add-t27
+add-t27 c = search needs
 
-shared-slice-read-b7 : tie.Need-shared-slice-read-b7
-shared-slice-read-b7 c = search needs
+shared-slice-read-t29 : tie.Need-shared-slice-read-t29
+shared-slice-read-t29 c = search needs
 
-slice-write-out : tie.Need-slice-write-out
-slice-write-out c = search needs
-
-add-out : tie.Need-add-out
-add-out c = search needs
-
-slice-write-out-2 : tie.Need-slice-write-out-2
-slice-write-out-2 c = simp length-set (omega arith)
-
-add-out-2 : tie.Need-add-out-2
-add-out-2 c = search needs
-
-slice-write-out-3 : tie.Need-slice-write-out-3
-slice-write-out-3 c = simp length-set (omega arith)
-
-add-out-3 : tie.Need-add-out-3
-add-out-3 c = search needs
-
-slice-write-out-4 : tie.Need-slice-write-out-4
-slice-write-out-4 c = simp length-set (omega arith)
-
-add-out-4 : tie.Need-add-out-4
-add-out-4 c = search needs
-
-slice-write-out-5 : tie.Need-slice-write-out-5
-slice-write-out-5 c = simp length-set (omega arith)
-
-add-out-5 : tie.Need-add-out-5
-add-out-5 c = search needs
-
-slice-write-out-6 : tie.Need-slice-write-out-6
-slice-write-out-6 c = simp length-set (omega arith)
-
-add-out-6 : tie.Need-add-out-6
-add-out-6 c = search needs
-
-slice-write-out-7 : tie.Need-slice-write-out-7
-slice-write-out-7 c = simp length-set (omega arith)
-
-add-out-7 : tie.Need-add-out-7
-add-out-7 c = search needs
-
-slice-write-out-8 : tie.Need-slice-write-out-8
-slice-write-out-8 c = simp length-set (omega arith)
+store-requires : tie.Need-store-requires
+store-requires c κs = search needs
 
 same-length : tie.Need-same-length
-same-length c = simp length-set
+same-length c = search needs
 
 returns : tie.Need-returns
 returns c =
-    let s = c .before .before .before .before .before .before .before .before in
-    stores (s .args .d .now) (s .args .i) (s .args .out .now) (s .args .at) (s .pre .0)
+    let p = c .before .before .before .before .before .before .before .before .before .before .before .before .before .before .pre in
+    stored _ _ _ _ (c .before .before .store .ensures) (p .0) (p .1)
 
 pub put-spec : {M : Type 1} → statement M
 put-spec =
     tie.close
     (tie.spec
     mul-from
-    shared-slice-read-b0
-    add-b1
-    shared-slice-read-b1
-    add-b2
-    shared-slice-read-b2
-    add-b3
-    shared-slice-read-b3
-    add-b4
-    shared-slice-read-b4
-    add-b5
-    shared-slice-read-b5
-    add-b6
-    shared-slice-read-b6
-    add-b7
-    shared-slice-read-b7
-    slice-write-out
-    add-out
-    slice-write-out-2
-    add-out-2
-    slice-write-out-3
-    add-out-3
-    slice-write-out-4
-    add-out-4
-    slice-write-out-5
-    add-out-5
-    slice-write-out-6
-    add-out-6
-    slice-write-out-7
-    add-out-7
-    slice-write-out-8
+    shared-slice-read-t8
+    add-t9
+    shared-slice-read-t11
+    add-t12
+    shared-slice-read-t14
+    add-t15
+    shared-slice-read-t17
+    add-t18
+    shared-slice-read-t20
+    add-t21
+    shared-slice-read-t23
+    add-t24
+    shared-slice-read-t26
+    add-t27
+    shared-slice-read-t29
+    store-requires
     same-length
     returns)

@@ -1,8 +1,4 @@
 -- `view::shown` meets its contract. Assumes nothing.
-use mathlib.Core.Path.{sym}
-use Prim.Native.Nat.{_*_}
-use native.Mathlib.Omega.{arith}
-use Rattle.view.specs.Inner.{memory}
 use Rattle.view.proofs.Remembering.{reads-below, reads-permit, reads-other}
 use borrow.Author.Needs.{needs}
 use Rattle.view.proofs.shown.Statement.{statement}

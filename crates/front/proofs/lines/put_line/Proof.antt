@@ -1,4 +1,4 @@
--- `lines::put_line` meets its contract: the parts of a line follow each other.
+-- `lines::put_line` meets its contract: the parts of a line follow each other. Assumes nothing.
 use Rattle.programs.proofs.Putting.{left-all, left-next, left-last, last-room}
 use borrow.Author.Needs.{needs}
 use Rattle.front.proofs.lines.put_line.Statement.{statement}

@@ -1,4 +1,4 @@
--- `lines::put_reach` meets its contract: the word is that of the number.
+-- `lines::put_reach` meets its contract: the word is that of the number. Assumes nothing.
 use Rattle.programs.proofs.Putting.{puts-there}
 use Rattle.front.proofs.RuleLines.{reach-self, reach-all}
 use borrow.Author.Needs.{needs}

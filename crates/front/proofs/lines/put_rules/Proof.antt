@@ -1,4 +1,4 @@
--- `lines::put_rules` meets its contract. The loop's invariant: the lines from rule i on are still to be put.
+-- `lines::put_rules` meets its contract. The loop's invariant: the lines from rule i on are still to be put. Assumes nothing.
 use Prim.Native.Nat.{_-_, _≤_}
 use native.Mathlib.Nat.{sub-zero}
 use Rattle.dossier.specs.Bytes.{records}

@@ -1,4 +1,4 @@
--- `input::gather` meets its contract: what is kept stands for an input, whether it ended before the most bytes or not; a short area is left.
+-- `input::gather` meets its contract: what is kept stands for an input, whether it ended before the most bytes or not; a short area is left. Assumes nothing.
 use mathlib.Core.Path.{refl, sym}
 use lib.Seq.{length-take-le}
 use Rattle.programs.proofs.Standing.{gathered-all, gathered-front, unread-not}

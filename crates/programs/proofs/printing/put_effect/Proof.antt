@@ -1,4 +1,4 @@
--- `printing::put_effect` meets its contract: the word is that of the number.
+-- `printing::put_effect` meets its contract: the word is that of the number. Assumes nothing.
 use Rattle.programs.proofs.Words.{effect-deny, effect-permit}
 use borrow.Author.Needs.{needs}
 use Rattle.programs.proofs.printing.put_effect.Statement.{statement}

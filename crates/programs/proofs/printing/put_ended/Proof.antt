@@ -1,4 +1,4 @@
--- `printing::put_ended` meets its contract: the end follows the number.
+-- `printing::put_ended` meets its contract: the end follows the number. Assumes nothing.
 use mathlib.Core.Path.{refl}
 use native.Mathlib.Omega.{arith}
 use Rattle.programs.proofs.Putting.{puts-there, first-room, left-first, left-last, last-room}

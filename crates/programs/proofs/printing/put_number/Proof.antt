@@ -1,4 +1,4 @@
--- `printing::put_number` meets its contract: the digits that it puts are those of the number.
+-- `printing::put_number` meets its contract: the digits that it puts are those of the number. Assumes nothing.
 use Rattle.programs.proofs.Decimals.{number-text}
 use borrow.Author.Needs.{needs}
 use Rattle.programs.proofs.printing.put_number.Statement.{statement}

@@ -1,4 +1,4 @@
--- `printing::put_refusal` meets its contract: what stands in the line is put.
+-- `printing::put_refusal` meets its contract: what stands in the line is put. Assumes nothing.
 use mathlib.Core.Path.{sym}
 use native.Mathlib.Omega.{arith}
 use lib.Seq.{length-take-le}

@@ -1,4 +1,4 @@
--- `printing::put_word` meets its contract. The loop's invariant: what is left of the word is still to be put.
+-- `printing::put_word` meets its contract. The loop's invariant: what is left of the word is still to be put. Assumes nothing.
 use Prim.Native.Nat.{_+_, _-_, _≤_}
 use native.Mathlib.Omega.{arith}
 use lib.ListN.{length, drop}

@@ -1,4 +1,4 @@
--- `printing::write_refusal` meets its contract: the parts of the line follow each other.
+-- `printing::write_refusal` meets its contract: the parts of the line follow each other. Assumes nothing.
 use Rattle.programs.specs.Printing.{refusalText}
 use Rattle.programs.proofs.Putting.{left-all, left-next, left-more, left-last, left-room, last-room}
 use Rattle.programs.proofs.Words.{refusal-room}
