@@ -12,17 +12,17 @@ use Rattle.dossier.specs.Bytes.{records, byteOf, recordAt, depthAt, elem
 use Rattle.dossier.specs.Reading.{fieldsAt}
 use Rattle.dossier.proofs.Laws.{depth-byte}
 
-module _ (d : List ℕ) (i : ℕ) (there : i < records d) where
-  pub record-long : length (recordAt d i) ≡ width
-  record-long = length-take-le width (drop (i * width) d) (omega (arith, length-drop (i * width) d))
+module _ (d : List ℕ) (i : ℕ) where
+  pub record-long : i < records d → length (recordAt d i) ≡ width
+  record-long there = length-take-le width (drop (i * width) d) (omega (arith, length-drop (i * width) d))
 
-  record-byte : (k : ℕ) → k < width → getD (recordAt d i) k 0 ≡ byteOf d i k
+  pub record-byte : (k : ℕ) → k < width → getD (recordAt d i) k 0 ≡ byteOf d i k
   record-byte k l = getD-take width (drop (i * width) d) k 0 l ∙ getD-drop (i * width) d k 0
 
-  pub record-fields : fieldsAt (recordAt d i) 0 ≡ fieldsAt d i
-  record-fields =
+  pub record-fields : i < records d → fieldsAt (recordAt d i) 0 ≡ fieldsAt d i
+  record-fields there =
       let depth : depthAt (recordAt d i) 0 ≡ depthAt d i =
-      depth-byte (recordAt d i) 0 (omega (arith, record-long))
+      depth-byte (recordAt d i) 0 (omega (arith, record-long there))
       ∙ record-byte 0 (omega arith) ∙ ap (λ (n : ℕ). getD d n 0) (add-zero (i * width)) ∙ sym (depth-byte d i there) in
       rw (depth, record-byte 1 (omega arith), record-byte 2 (omega arith), record-byte 3 (omega arith))
 
