@@ -10,7 +10,7 @@ use borrow.Author.Tests.{leb-false}
 use Rattle.dossier.specs.Limits.{width, mostElements}
 use Rattle.dossier.specs.Elements.{Mark, marksOf}
 use Rattle.dossier.specs.Bytes.{records, elementsOf}
-use Rattle.dossier.specs.Replies.{refusal, andThen, roomFor}
+use Rattle.dossier.specs.Replies.{refusal, andThen, roomFor, roomBy}
 use Rattle.dossier.specs.Reading.{Fields, fieldsAt, readOf, Sound}
 use Rattle.dossier.specs.Table.{Row, row-1, row-2, row-3, row-4, row-5, row-6}
 use Rattle.dossier.specs.declared.Decision.{Decision}
@@ -146,7 +146,7 @@ step-fits w r s h = go (leaves? w)
 -- ---- listing and reading back
 
 room-fits : (n : ℕ) (area : List ℕ) → n < 9223372036854775808 → FitsReply (roomFor n area)
-unfolding roomFor
+unfolding roomBy
 room-fits n area s = go (ltb (length area) (n * width))
   where
     go : (short : Bool) → FitsReply (cond short (refusal 8 0 0) (Count n))

@@ -13,8 +13,8 @@ use Rattle.dossier.specs.Replies.{areaAfter}
 use Rattle.dossier.specs.declared.Decision.the-variants.{Deny, Permit, None}
 use Rattle.dossier.specs.declared.Answer.{Answer}
 use Rattle.dossier.specs.declared.Answer.the-variants.{Given, Refused}
-use Rattle.dossier.proofs.RoundTrip.{eight-bytes}
 use Rattle.dossier.proofs.Stores.{area-fits, sets-front}
+use Rattle.dossier.proofs.Widths.{bytes-alone}
 use Rattle.rules.specs.Deciding.{decideOf, decidingOf}
 use Rattle.rules.proofs.Parts.{Silent, none, refused, part-empty, part-eight}
 use Rattle.capi.specs.Packed.{partAfter}
@@ -24,7 +24,7 @@ use Rattle.capi.specs.Inner.{ifWhole}
 pub whole-stored : (part was : List ℕ) {new : List ℕ} → new ≡ areaAfter was 0 (run (byteOf part 0) 0 width) → length part ≡ width → length was ≡ width → new ≡ part
 whole-stored part was e w l =
     let rest : drop (length part) was ≡ [] = ap (λ (n : ℕ). drop n was) (w ∙ sym l) ∙ drop-length was in
-    e ∙ ap (areaAfter was 0) (eight-bytes part w) ∙ area-fits was 0 part (omega arith) ∙ sets-front was part (omega arith) ∙ rw (rest, append-nil)
+    e ∙ ap (areaAfter was 0) (bytes-alone width part w) ∙ area-fits was 0 part (omega arith) ∙ sets-front was part (omega arith) ∙ rw (rest, append-nil)
 
 -- the deciding rule's bytes are none, or a record's
 deciding-part : (d house recipient : List ℕ) (c i : ℕ) → (decidingOf d house recipient c i ≡ []) ⊎ (length (decidingOf d house recipient c i) ≡ width)

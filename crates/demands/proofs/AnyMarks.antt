@@ -9,7 +9,7 @@ use borrow.Author.Tests.{le-ltb}
 use Rattle.dossier.specs.Limits.{width}
 use Rattle.dossier.specs.Elements.{Mark, m-, m+, m±, marksOf}
 use Rattle.dossier.specs.Bytes.{records, keyAt, elementsOf, withMarks}
-use Rattle.dossier.specs.Replies.{refusal, roomFor, fronted}
+use Rattle.dossier.specs.Replies.{refusal, roomBy, fronted}
 use Rattle.dossier.specs.Reading.{Sound}
 use Rattle.dossier.specs.declared.Reply.{Reply}
 use Rattle.dossier.specs.declared.Reply.the-variants.{Count}
@@ -48,7 +48,7 @@ module _ (d : List ℕ) (m : Marking d) where
 
   pub listed : (area : List ℕ) → Sound d → length (rulesFrom d m) * width ≤ length area
       → (listReply new area ≡ Count (length (rulesFrom d m))) × (listArea new area ≡ fronted area (listBytes (rulesFrom d m)))
-  unfolding listReply listArea roomFor
+  unfolding listReply listArea roomBy
   listed area s l =
       let read = sound-counted new (marked-sound d (m .marks) (m .each) s) in
       let room = le-ltb (length area) (length (rulesFrom d m) * width) l in

@@ -8,6 +8,7 @@ use mathlib.Core.List.{List}
 use lib.ListN.{length}
 use lib.Dec.{ltb, leb}
 use borrow.Author.Tests.{ltb-true, ltb-false, leb-true, leb-false}
+use Rattle.dossier.specs.Limits.{width}
 use Rattle.dossier.specs.Bytes.{records, elementsOf}
 use Rattle.dossier.specs.Replies.{refusal, andThen, roomFor}
 use Rattle.dossier.specs.Reading.{readOf}
@@ -41,7 +42,7 @@ use Rattle.demands.specs.Refusing.{inRules, tooShortForView, noMarks, no
 pub list-refused : (d area : List ℕ) → RefusesReply (listReply d area) (inElements d before tooShort (length (listedOf d)) area)
 unfolding listReply
 list-refused d area =
-    then (readOf d) (roomFor (length (listedOf d)) area) (refused-row d) (λ n e. room-refused (length (listedOf d)) area)
+    then (readOf d) (roomFor (length (listedOf d)) area) (refused-row d) (λ n e. room-refused width (length (listedOf d)) area)
 
 pub list-unchanged : (d area : List ℕ) (f : Refusal) → listReply d area ≡ Refused f → listArea d area ≡ area
 unfolding listArea
@@ -152,7 +153,7 @@ module _ (d area : List ℕ) (reply : Reply) (new : List ℕ) where
   viewed-refused v f = (to, from)
     where
       room : (reply ≡ Refused f) ↔ tooShort (length (v .shown)) area f
-      room = rw (v .replied) (room-refused (length (v .shown)) area f)
+      room = rw (v .replied) (room-refused width (length (v .shown)) area f)
 
       to : reply ≡ Refused f → tooShortForView d area f
       to e = (room .0 e .0, (v .shown, v .view, room .0 e .1))

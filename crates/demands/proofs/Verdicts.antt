@@ -8,7 +8,7 @@ use borrow.Author.Tests.{le-ltb}
 use Rattle.dossier.specs.Limits.{width}
 use Rattle.dossier.specs.Elements.{Mark, m-}
 use Rattle.dossier.specs.Bytes.{records, elementsOf, withMarks}
-use Rattle.dossier.specs.Replies.{roomFor}
+use Rattle.dossier.specs.Replies.{roomBy}
 use Rattle.dossier.specs.Reading.{Sound}
 use Rattle.dossier.specs.declared.Reply.{Reply}
 use Rattle.dossier.specs.declared.Reply.the-variants.{Count}
@@ -65,7 +65,7 @@ module _ (w : Way) (known : Known w) where
 
   own-count : (d : List ℕ) (n : ℕ) (new : List ℕ) → Sound d → FoldedBy w d (Count n) new
       → (n ≡ length (listedOf new)) × ((area : List ℕ) → n * width ≤ length area → listReply new area ≡ Count n)
-  unfolding listReply roomFor
+  unfolding listReply roomBy
   own-count d n new s f =
       let l = known .lists d (Count n) new s f in
       let e : n ≡ length (listedOf new) = cc (l .replied) in

@@ -4,27 +4,21 @@ use Prim.Native.Nat.{ℕ, _*_, _<_}
 use native.Mathlib.Nat.{add-zero}
 use native.Mathlib.Omega.{arith}
 use mathlib.Core.List.{List}
-use lib.ListN.{length, getD, drop, length-drop}
-use lib.Seq.{length-take-le, getD-take, getD-drop}
+use lib.ListN.{getD}
 use Rattle.dossier.specs.Limits.{width}
 use Rattle.dossier.specs.Elements.{Element, effectNumber, markNumber}
 use Rattle.dossier.specs.Bytes.{records, byteOf, recordAt, depthAt, elementBytes}
 use Rattle.dossier.specs.Reading.{fieldsAt}
 use Rattle.dossier.proofs.Laws.{depth-byte}
+use Rattle.dossier.proofs.Widths.{record-byte, record-long}
 
-module _ (d : List ℕ) (i : ℕ) where
-  pub record-long : i < records d → length (recordAt d i) ≡ width
-  record-long there = length-take-le width (drop (i * width) d) (omega (arith, length-drop (i * width) d))
-
-  pub record-byte : (k : ℕ) → k < width → getD (recordAt d i) k 0 ≡ byteOf d i k
-  record-byte k l = getD-take width (drop (i * width) d) k 0 l ∙ getD-drop (i * width) d k 0
-
-  pub record-fields : i < records d → fieldsAt (recordAt d i) 0 ≡ fieldsAt d i
-  record-fields there =
-      let depth : depthAt (recordAt d i) 0 ≡ depthAt d i =
-      depth-byte (recordAt d i) 0 (omega (arith, record-long there))
-      ∙ record-byte 0 (omega arith) ∙ ap (λ (n : ℕ). getD d n 0) (add-zero (i * width)) ∙ sym (depth-byte d i there) in
-      rw (depth, record-byte 1 (omega arith), record-byte 2 (omega arith), record-byte 3 (omega arith))
+pub record-fields : (d : List ℕ) (i : ℕ) → i < records d → fieldsAt (recordAt d i) 0 ≡ fieldsAt d i
+record-fields d i there =
+    let byte : (k : ℕ) → k < width → getD (recordAt d i) k 0 ≡ byteOf d i k = record-byte width d i in
+    let depth : depthAt (recordAt d i) 0 ≡ depthAt d i =
+    depth-byte (recordAt d i) 0 (omega (arith, record-long width d i (omega arith) there))
+    ∙ byte 0 (omega arith) ∙ ap (λ (n : ℕ). getD d n 0) (add-zero (i * width)) ∙ sym (depth-byte d i there) in
+    rw (depth, byte 1 (omega arith), byte 2 (omega arith), byte 3 (omega arith))
 
 -- the record that an element is written as
 pub element-fields : (e : Element)

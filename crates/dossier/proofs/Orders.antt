@@ -8,12 +8,11 @@ use mathlib.Core.List.{List}
 use lib.ListN.{length}
 use lib.Dec.{ltb}
 use borrow.Author.Tests.{ltb-true, ltb-false}
-use Rattle.dossier.specs.Limits.{width}
-use Rattle.dossier.specs.Replies.{refusal, andThen, After, roomFor}
+use Rattle.dossier.specs.Replies.{refusal, andThen, After, roomBy}
 use Rattle.dossier.specs.declared.Refusal.{Refusal}
 use Rattle.dossier.specs.declared.Reply.{Reply}
 use Rattle.dossier.specs.declared.Reply.the-variants.{Count, Refused}
-use Rattle.dossier.specs.Refusing.{Refusals, row, _before_, first, later, tooShort}
+use Rattle.dossier.specs.Refusing.{Refusals, row, _before_, first, later, tooShortBy}
 
 -- nothing is refused so
 abbrev pub Never : Refusals → Type 0
@@ -75,13 +74,13 @@ then (Count n) y p q = on Refused (counted-never p) (q n refl)
 then (Refused g) y p q = here Refused p
 
 -- 8
-pub room-refused : (n : ℕ) (area : List ℕ) → RefusesReply (roomFor n area) (tooShort n area)
-unfolding roomFor
-room-refused n area = go (ltb (length area) (n * width)) refl
+pub room-refused : (w n : ℕ) (area : List ℕ) → RefusesReply (roomBy w n area) (tooShortBy w n area)
+unfolding roomBy
+room-refused w n area = go (ltb (length area) (n * w)) refl
   where
-    go : (t : Bool) → ltb (length area) (n * width) ≡ t → RefusesReply (cond t (refusal 8 0 0) (Count n)) (tooShort n area)
-    go true e = row-here Refused same-refused 8 0 0 _ (ltb-true (length area) (n * width) e)
-    go false e = none Refused (row-never (λ l. omega (arith, ltb-false (length area) (n * width) e))) count-never
+    go : (t : Bool) → ltb (length area) (n * w) ≡ t → RefusesReply (cond t (refusal 8 0 0) (Count n)) (tooShortBy w n area)
+    go true e = row-here Refused same-refused 8 0 0 _ (ltb-true (length area) (n * w) e)
+    go false e = none Refused (row-never (λ l. omega (arith, ltb-false (length area) (n * w) e))) count-never
 
 -- ---- two orders, one after the other, are one order
 

@@ -27,6 +27,9 @@ infixr 20 _before_
 abbrev pub inElements : List ℕ → Refusals
 inElements d f = Row d (f .number) (f .list) (f .position)
 
--- 8: the output area is shorter than the records to be written
+-- 8: the output area is shorter than the records to be written, of w bytes or a dossier's
+abbrev pub tooShortBy : ℕ → ℕ → List ℕ → Refusals
+tooShortBy w n area = row 8 0 0 (length area < n * w)
+
 abbrev pub tooShort : ℕ → List ℕ → Refusals
-tooShort n area = row 8 0 0 (length area < n * width)
+tooShort = tooShortBy width

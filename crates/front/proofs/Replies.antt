@@ -8,13 +8,13 @@ use lib.Seq.{take-at}
 use borrow.Author.Tests.{le-ltb}
 use Rattle.dossier.specs.Limits.{width, mostElements}
 use Rattle.dossier.specs.Bytes.{records}
-use Rattle.dossier.specs.Replies.{roomFor, fronted}
+use Rattle.dossier.specs.Replies.{roomBy, fronted}
 use Rattle.dossier.specs.Reading.{readOf}
 use Rattle.dossier.specs.declared.Refusal.{Refusal}
 use Rattle.dossier.specs.declared.Reply.{Reply}
 use Rattle.dossier.specs.declared.Reply.the-variants.{Count, Refused}
-use Rattle.dossier.proofs.RoundTrip.{length-joined}
 use Rattle.dossier.proofs.Sounds.{counted-sound, sound-counted}
+use Rattle.dossier.proofs.Widths.{length-joined}
 use Rattle.rules.specs.Rules.{targetAt, rulesOf, ruleBytes, listBytes}
 use Rattle.rules.proofs.RoundTrip.{rules-back}
 use Rattle.listing.specs.Area.{listedOf, listReply, listArea}
@@ -33,10 +33,10 @@ use Rattle.front.proofs.RuleLines.{rules-room}
 
 module _ {d area out : List ℕ} (short : Short d) (areas : Areas area out) where
   list-length : length (listBytes (listedOf d)) ≡ length (listedOf d) * width
-  list-length = length-joined ruleBytes (λ r. refl) (listedOf d)
+  list-length = length-joined width ruleBytes (λ r. refl) (listedOf d)
 
   list-counts : listReply d area ≡ Count (length (listedOf d))
-  unfolding listReply roomFor
+  unfolding listReply roomBy
   list-counts =
       rw (sound-counted d (short .sound))
       (simp (le-ltb (length area) (length (listedOf d) * width) (omega (arith, short .few, areas .wide))))

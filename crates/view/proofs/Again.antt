@@ -14,7 +14,7 @@ use Rattle.dossier.specs.Elements.{Element, marksOf}
 use Rattle.dossier.specs.Bytes.{records, recordAt, recordsOf, joined, elementAt, elementsOf}
 use Rattle.dossier.specs.Order.{Follows, Ordered}
 use Rattle.dossier.specs.Below.{deeper, covers}
-use Rattle.dossier.specs.Replies.{refusal, After, roomFor}
+use Rattle.dossier.specs.Replies.{refusal, After, roomFor, roomBy}
 use Rattle.dossier.specs.Reading.{readOf, Sound}
 use Rattle.dossier.specs.declared.Decision.the-variants.{Permit, None}
 use Rattle.dossier.specs.declared.Reply.{Reply}
@@ -99,7 +99,7 @@ module _ (d : List ℕ) (s : Sound d) (shown : List (List ℕ)) (v : IsView d sh
 
 -- a count is that of the records to be written
 room-count : (m : ℕ) (area : List ℕ) {n : ℕ} → Count n ≡ roomFor m area → n ≡ m
-unfolding roomFor
+unfolding roomBy
 room-count m area {n} e = go (ltb (length area) (m * width)) e
   where
     go : (short : Bool) → Count n ≡ cond short (refusal 8 0 0) (Count m) → n ≡ m

@@ -12,7 +12,7 @@ use Rattle.dossier.specs.Limits.{width}
 use Rattle.dossier.specs.Bytes.{records, recordAt, joined}
 use Rattle.view.specs.Inner.{Memory, atFirst, shows, after, shownFrom, shownOf, bytesOf, bytesIf}
 use Rattle.dossier.proofs.Stores.{sets-more}
-use Rattle.dossier.proofs.Alone.{record-long}
+use Rattle.dossier.proofs.Widths.{record-long}
 
 -- what is left to show from record i on
 unfoldable pub shownRest : Memory → List ℕ → ℕ → List (List ℕ)
@@ -59,7 +59,7 @@ shown-long : (m : Memory) (d : List ℕ) (i n : ℕ) → i + n ≤ records d →
 unfolding shownFrom bytesOf
 shown-long m d i zero l = refl
 shown-long m d i (suc n) l =
-    go (shows m d i) (recordAt d i) _ (record-long d i (omega arith)) (shown-long (after m d i) d (suc i) n (omega arith))
+    go (shows m d i) (recordAt d i) _ (record-long width d i (omega arith) (omega arith)) (shown-long (after m d i) d (suc i) n (omega arith))
   where
     go : (b : Bool) (r : List ℕ) (rs : List (List ℕ)) → length r ≡ width → length (joined (λ x. x) rs) ≡ length rs * width
         → length (joined (λ x. x) (cond b (r ∷ rs) rs)) ≡ length (cond b (r ∷ rs) rs) * width
@@ -82,7 +82,7 @@ module _ (d : List ℕ) (i : ℕ) {b : Bool} where
   hidden-bytes e = rw e
 
   pub shown-width : i < records d → b ≡ true → length (bytesIf b d i) ≡ width
-  shown-width l e = ap length (shown-bytes e) ∙ record-long d i l
+  shown-width l e = ap length (shown-bytes e) ∙ record-long width d i (omega arith) l
 
 -- ---- one record, where the test said `b` and left `m′`
 

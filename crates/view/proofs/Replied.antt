@@ -9,7 +9,7 @@ use borrow.Author.Tests.{le-ltb, lt-ltb, leb-false}
 use lib.ListN.{length}
 use lib.Seq.{sets}
 use Rattle.dossier.specs.Limits.{width}
-use Rattle.dossier.specs.Replies.{refusal, roomFor}
+use Rattle.dossier.specs.Replies.{refusal, roomBy}
 use Rattle.dossier.specs.Reading.{readOf}
 use Rattle.dossier.specs.declared.Refusal.{Refusal}
 use Rattle.dossier.specs.declared.Reply.{Reply}
@@ -26,7 +26,7 @@ refused-views d area e = rw e (refl, refl)
 
 module _ (d area : List ℕ) {k : ℕ} (read : readOf d ≡ Count k) where
   pub short-views : leb (length (shownOf d) * width) (length area) ≡ false → {reply : Reply} → reply ≡ refusal 8 0 0 → Views d area reply area
-  unfolding roomFor
+  unfolding roomBy
   short-views l e = rw read (record {
     shown = shownOf d;
     view = shown-view d (counted-sound d k read);
@@ -35,7 +35,7 @@ module _ (d area : List ℕ) {k : ℕ} (read : readOf d ≡ Count k) where
   })
 
   pub copied-views : length (shownOf d) * width ≤ length area → {n : ℕ} → n ≡ length (shownOf d) → {new : List ℕ} → new ≡ sets area 0 (bytesOf (shownOf d)) → Views d area (Count n) new
-  unfolding roomFor bytesOf
+  unfolding roomBy bytesOf
   copied-views l {n} m e = rw read (record {
     shown = shownOf d;
     view = shown-view d (counted-sound d k read);

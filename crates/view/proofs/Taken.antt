@@ -11,7 +11,7 @@ use Rattle.dossier.specs.Order.{Ordered}
 use Rattle.dossier.specs.Reading.{Sound}
 use Rattle.dossier.proofs.Laws.{depth-byte}
 use Rattle.dossier.proofs.Runs.{run-at, run-same, run-map}
-use Rattle.dossier.proofs.RoundTrip.{length-joined, records-joined, byte-joined, record-bytes, run-all}
+use Rattle.dossier.proofs.Widths.{byte-joined, length-joined, record-bytes, records-joined, run-all}
 
 -- the positions are the dossier's
 abbrev pub There : List ℕ → List ℕ → Type 0
@@ -23,7 +23,7 @@ bytesAt d p = run (byteOf d p) 0 width
 
 same-bytes : (d ps : List ℕ) → There d ps → joined (recordAt d) ps ≡ joined (bytesAt d) ps
 same-bytes d [] there = refl
-same-bytes d (p ∷ ps) there = ap₂ _++_ (record-bytes d p (there 0 (omega arith))) (same-bytes d ps (λ k l. there (suc k) (omega arith)))
+same-bytes d (p ∷ ps) there = ap₂ _++_ (record-bytes width d p (omega arith) (there 0 (omega arith))) (same-bytes d ps (λ k l. there (suc k) (omega arith)))
 
 module _ (d ps : List ℕ) (there : There d ps) (s : Sound d) where
   abbrev taken : List ℕ
@@ -31,12 +31,12 @@ module _ (d ps : List ℕ) (there : There d ps) (s : Sound d) where
 
   taken-byte : (i k : ℕ) → i < length ps → k < width → byteOf taken i k ≡ byteOf d (getD ps i 0) k
   taken-byte i k l h =
-      byte-joined (bytesAt d) (λ p. refl) ps i k 0 l h ∙ run-at (byteOf d (getD ps i 0)) 0 width k 0 h ∙ ap (byteOf d (getD ps i 0)) (zero-add k)
+      byte-joined width (bytesAt d) (λ p. refl) ps i k 0 l h ∙ run-at (byteOf d (getD ps i 0)) 0 width k 0 h ∙ ap (byteOf d (getD ps i 0)) (zero-add k)
 
   taken-depth : (i : ℕ) → i < length ps → depthAt taken i ≡ depthAt d (getD ps i 0)
   taken-depth i l =
       let first : getD taken (i * width) 0 ≡ getD d (getD ps i 0 * width) 0 = simp add-zero at (taken-byte i 0 l (omega arith)) in
-      depth-byte taken i (rw (records-joined (bytesAt d) (λ p. refl) ps) l) ∙ first ∙ sym (depth-byte d (getD ps i 0) (there i l))
+      depth-byte taken i (rw (records-joined width (bytesAt d) (λ p. refl) ps (omega arith)) l) ∙ first ∙ sym (depth-byte d (getD ps i 0) (there i l))
 
   taken-element : (i : ℕ) → i < length ps → elementAt taken i ≡ elementAt d (getD ps i 0)
   taken-element i l =
@@ -53,14 +53,14 @@ module _ (d ps : List ℕ) (there : There d ps) (s : Sound d) where
   taken-elements : elementsOf taken ≡ map (elementAt d) ps
   unfolding elementsOf
   taken-elements =
-      ap (run (elementAt taken) 0) (records-joined (bytesAt d) (λ p. refl) ps)
+      ap (run (elementAt taken) 0) (records-joined width (bytesAt d) (λ p. refl) ps (omega arith))
       ∙ run-same (elementAt taken) (λ k. elementAt d (getD ps k 0)) 0 (length ps) (λ k a b. taken-element k (omega arith))
       ∙ sym (run-map (elementAt d) (λ k. getD ps k 0) 0 (length ps))
       ∙ ap (map (elementAt d)) (run-all (λ k. getD ps k 0) ps 0 (λ i l. refl))
 
   pub taken-sound : 0 < length ps → length ps ≤ mostElements → Ordered (map (elementAt d) ps) → Sound (joined (recordAt d) ps)
   taken-sound some few o =
-      let n : length taken ≡ length ps * width = length-joined (bytesAt d) (λ p. refl) ps in
+      let n : length taken ≡ length ps * width = length-joined width (bytesAt d) (λ p. refl) ps in
       let within : (i : ℕ) → i < records taken → i < length ps = λ i l. omega arith in
       rw (same-bytes d ps there) (record {
         some = omega arith;

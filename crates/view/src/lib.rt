@@ -62,10 +62,10 @@ fn has_room(d: &[u8], room: usize) -> bool
     count(d) * WIDTH <= room
 }
 
-// Writes record i to the area from byte `at` on. Its bytes are all read before the first is written, so that they can move at once.
-fn put(d: &[u8], i: usize, out: &mut [u8], at: usize)
-    requires { ⌜ (i < records (now d)) × (at + width ≤ length (now out)) ⌝ }
-    ensures { λ _. ⌜ now (out .exit) ≡ sets (now (out .entry)) at (recordAt (now (d .entry)) i) ⌝ }
+// Writes record i as record `to` of the area. Its bytes are all read before the first is written, so that they can move at once.
+fn put(d: &[u8], i: usize, out: &mut [u8], to: usize)
+    requires { ⌜ (i < records (now d)) × (to < records (now out)) ⌝ }
+    ensures { λ _. ⌜ now (out .exit) ≡ sets (now (out .entry)) (to * width) (recordAt (now (d .entry)) i) ⌝ }
 {
     let from = i * WIDTH;
     let bytes = [
@@ -78,19 +78,19 @@ fn put(d: &[u8], i: usize, out: &mut [u8], at: usize)
         d[from + 6],
         d[from + 7],
     ];
-    dossier::store(out, at, bytes);
+    dossier::store(out, to, bytes);
 }
 
-// The same only where the record belongs in the view; the place behind what was written.
-fn put_if(belongs: bool, d: &[u8], i: usize, out: &mut [u8], at: usize) -> usize
-    requires { ⌜ (i < records (now d)) × (at + length (bytesIf belongs (now d) i) ≤ length (now out)) ⌝ }
-    ensures { λ r. ⌜ (r ≡ at + length (bytesIf belongs (now (d .entry)) i)) × (now (out .exit) ≡ sets (now (out .entry)) at (bytesIf belongs (now (d .entry)) i)) ⌝ }
+// The same only where the record belongs in the view; which record of the area comes next.
+fn put_if(belongs: bool, d: &[u8], i: usize, out: &mut [u8], to: usize) -> usize
+    requires { ⌜ (i < records (now d)) × (to * width + length (bytesIf belongs (now d) i) ≤ length (now out)) ⌝ }
+    ensures { λ r. ⌜ (r * width ≡ to * width + length (bytesIf belongs (now (d .entry)) i)) × (now (out .exit) ≡ sets (now (out .entry)) (to * width) (bytesIf belongs (now (d .entry)) i)) ⌝ }
 {
     if belongs {
-        put(d, i, out, at);
-        return at + WIDTH;
+        put(d, i, out, to);
+        return to + 1;
     }
-    at
+    to
 }
 
 // Writes the records that are shown to the area's front, and says how many they are.
@@ -101,14 +101,14 @@ fn copy(d: &[u8], out: &mut [u8]) -> usize
     let n = d.len() / WIDTH;
     let mut handed = [2u8; DEPTHS];
     let mut limit: usize = DEPTHS;
-    let mut at: usize = 0;
+    let mut to: usize = 0;
     let mut i: usize = 0;
     while i < n {
         let belongs = shown(d, i, &mut handed, &mut limit);
-        at = put_if(belongs, d, i, &mut *out, at);
+        to = put_if(belongs, d, i, &mut *out, to);
         i += 1;
     }
-    at / WIDTH
+    to
 }
 
 // Writes the view to the area's front and replies how many records it has; or refuses and writes nothing.

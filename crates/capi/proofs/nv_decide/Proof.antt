@@ -2,17 +2,17 @@
 use mathlib.Core.Path.{ap, _∙_}
 use Rattle.capi.specs.Packed.{packedAnswer}
 use borrow.Author.Needs.{needs}
+use Rattle.dossier.proofs.Needs.{found}
 use Rattle.capi.proofs.nv_decide.Statement.{statement}
 use Rattle.capi.proofs.nv_decide.Tie as tie
-
-decide-requires : tie.Need-decide-requires
-decide-requires c κs = search needs
-
-pack-answer-requires : tie.Need-pack-answer-requires
-pack-answer-requires c κs = search needs
 
 returns : tie.Need-returns
 returns c = c .pack-answer .ensures ∙ ap packedAnswer (c .before .decide .ensures .0)
 
 pub nv-decide-spec : {M : Type 1} → statement M
-nv-decide-spec = tie.close (tie.spec decide-requires pack-answer-requires returns)
+nv-decide-spec =
+    tie.close
+    (tie.spec
+    (found tie.Need-decide-requires (λ c κs. search needs))
+    (found tie.Need-pack-answer-requires (λ c κs. search needs))
+    returns)

@@ -4,23 +4,12 @@ use native.Mathlib.Omega.{arith}
 use Rattle.capi.specs.Packed.{packedJudgement}
 use Rattle.capi.proofs.Told.{verdict-small}
 use borrow.Author.Needs.{needs}
+use Rattle.dossier.proofs.Needs.{found}
 use Rattle.capi.proofs.pack_judgement.Statement.{statement}
 use Rattle.capi.proofs.pack_judgement.Tie as tie
 
-enum-known-judgement : tie.Need-enum-known-judgement
-enum-known-judgement c = search needs
-
-pack-verdict-requires : tie.Need-pack-verdict-requires
-pack-verdict-requires c κs = search needs
-
 add-result : tie.Need-add-result
 add-result c = omega (arith, verdict-small (c .before .before .judgement .given .0 .0 .verdict))
-
-enum-known-judgement-2 : tie.Need-enum-known-judgement-2
-enum-known-judgement-2 c = search needs
-
-pack-refusal-requires : tie.Need-pack-refusal-requires
-pack-refusal-requires c κs = search needs
 
 returns : tie.Need-returns
 returns c = rw (c .pack-verdict .ensures, c .before .before .judgement .given .1)
@@ -32,10 +21,10 @@ pub pack-judgement-spec : {M : Type 1} → statement M
 pack-judgement-spec =
     tie.close
     (tie.spec
-    enum-known-judgement
-    pack-verdict-requires
+    (found tie.Need-enum-known-judgement (λ c. search needs))
+    (found tie.Need-pack-verdict-requires (λ c κs. search needs))
     add-result
-    enum-known-judgement-2
-    pack-refusal-requires
+    (found tie.Need-enum-known-judgement-2 (λ c. search needs))
+    (found tie.Need-pack-refusal-requires (λ c κs. search needs))
     returns
     returns-2)

@@ -4,32 +4,9 @@ use native.Mathlib.Omega.{arith}
 use Rattle.capi.specs.Packed.{packedVerdict}
 use Rattle.capi.proofs.Told.{decision-small}
 use borrow.Author.Needs.{needs}
+use Rattle.dossier.proofs.Needs.{found}
 use Rattle.capi.proofs.pack_verdict.Statement.{statement}
 use Rattle.capi.proofs.pack_verdict.Tie as tie
-
-enum-told : tie.Need-enum-told
-enum-told c = search needs
-
-enum-known-verdict : tie.Need-enum-known-verdict
-enum-known-verdict c = search needs
-
-mul-result : tie.Need-mul-result
-mul-result c = search needs
-
-add-result : tie.Need-add-result
-add-result c = search needs
-
-enum-known-verdict-2 : tie.Need-enum-known-verdict-2
-enum-known-verdict-2 c = search needs
-
-mul-result-2 : tie.Need-mul-result-2
-mul-result-2 c = search needs
-
-add-result-2 : tie.Need-add-result-2
-add-result-2 c = search needs
-
-pack-decision-requires : tie.Need-pack-decision-requires
-pack-decision-requires c κs = search needs
 
 mul-result-3 : tie.Need-mul-result-3
 mul-result-3 c = omega (arith, decision-small (c .before .before .verdict2 .given .0 .1 .0))
@@ -50,14 +27,14 @@ pub pack-verdict-spec : {M : Type 1} → statement M
 pack-verdict-spec =
     tie.close
     (tie.spec
-    enum-told
-    enum-known-verdict
-    mul-result
-    add-result
-    enum-known-verdict-2
-    mul-result-2
-    add-result-2
-    pack-decision-requires
+    (found tie.Need-enum-told (λ c. search needs))
+    (found tie.Need-enum-known-verdict (λ c. search needs))
+    (found tie.Need-mul-result (λ c. search needs))
+    (found tie.Need-add-result (λ c. search needs))
+    (found tie.Need-enum-known-verdict-2 (λ c. search needs))
+    (found tie.Need-mul-result-2 (λ c. search needs))
+    (found tie.Need-add-result-2 (λ c. search needs))
+    (found tie.Need-pack-decision-requires (λ c κs. search needs))
     mul-result-3
     add-result-3
     returns

@@ -4,38 +4,12 @@ use native.Mathlib.Omega.{arith}
 use borrow.Author.Tests.{eq-eqb, ne-eqb}
 use Rattle.capi.proofs.Parts.{whole-stored}
 use borrow.Author.Needs.{needs}
+use Rattle.dossier.proofs.Needs.{found}
 use Rattle.capi.proofs.put_part.Statement.{statement}
 use Rattle.capi.proofs.put_part.Tie as tie
 
 returns : tie.Need-returns
 returns c = simp (ne-eqb _ _ (c .if1 .taken)) (refl, refl)
-
-shared-slice-read-t7 : tie.Need-shared-slice-read-t7
-shared-slice-read-t7 c = search needs
-
-shared-slice-read-t9 : tie.Need-shared-slice-read-t9
-shared-slice-read-t9 c = search needs
-
-shared-slice-read-t11 : tie.Need-shared-slice-read-t11
-shared-slice-read-t11 c = search needs
-
-shared-slice-read-t13 : tie.Need-shared-slice-read-t13
-shared-slice-read-t13 c = search needs
-
-shared-slice-read-t15 : tie.Need-shared-slice-read-t15
-shared-slice-read-t15 c = search needs
-
-shared-slice-read-t17 : tie.Need-shared-slice-read-t17
-shared-slice-read-t17 c = search needs
-
-shared-slice-read-t19 : tie.Need-shared-slice-read-t19
-shared-slice-read-t19 c = search needs
-
-shared-slice-read-t21 : tie.Need-shared-slice-read-t21
-shared-slice-read-t21 c = search needs
-
-store-requires : tie.Need-store-requires
-store-requires c κs = search needs
 
 returns-2 : tie.Need-returns-2
 returns-2 c =
@@ -47,13 +21,13 @@ put-part-spec =
     tie.close
     (tie.spec
     returns
-    shared-slice-read-t7
-    shared-slice-read-t9
-    shared-slice-read-t11
-    shared-slice-read-t13
-    shared-slice-read-t15
-    shared-slice-read-t17
-    shared-slice-read-t19
-    shared-slice-read-t21
-    store-requires
+    (found tie.Need-shared-slice-read-t7 (λ c. search needs))
+    (found tie.Need-shared-slice-read-t9 (λ c. search needs))
+    (found tie.Need-shared-slice-read-t11 (λ c. search needs))
+    (found tie.Need-shared-slice-read-t13 (λ c. search needs))
+    (found tie.Need-shared-slice-read-t15 (λ c. search needs))
+    (found tie.Need-shared-slice-read-t17 (λ c. search needs))
+    (found tie.Need-shared-slice-read-t19 (λ c. search needs))
+    (found tie.Need-shared-slice-read-t21 (λ c. search needs))
+    (found tie.Need-store-requires (λ c κs. search needs))
     returns-2)

@@ -4,14 +4,9 @@ use mathlib.Core.Path.{sym}
 use native.Mathlib.Omega.{arith}
 use lib.Seq.{length-take-le}
 use borrow.Author.Needs.{needs}
+use Rattle.dossier.proofs.Needs.{found}
 use Rattle.front.proofs.list.Statement.{statement}
 use Rattle.front.proofs.list.Tie as tie
-
-list-requires : tie.Need-list-requires
-list-requires c κs = search needs
-
-enum-known-n : tie.Need-enum-known-n
-enum-known-n c = search needs
 
 mul-put-rules : tie.Need-mul-put-rules
 mul-put-rules c =
@@ -42,18 +37,6 @@ put-rules-requires c κs =
     let start = listed .before .before .before .before .before in
     part-room (start .pre .0) (start .pre .1) (listed .list .ensures .0) (c .before .before .before .n .given .1) (listed .list .ensures .1)
 
-enum-known-f : tie.Need-enum-known-f
-enum-known-f c = search needs
-
-put-refusal-requires : tie.Need-put-refusal-requires
-put-refusal-requires c κs = search needs
-
-same-length : tie.Need-same-length
-same-length c = search needs
-
-same-length-2 : tie.Need-same-length-2
-same-length-2 c = search needs
-
 returns : tie.Need-returns
 returns c =
     let listed = c .before .before .before .before .before .before .before .before .before .before in
@@ -61,12 +44,6 @@ returns c =
     let number = c .before .before .before .before .before .before in
     part-puts (start .pre .0) (start .pre .1) (listed .list .ensures .0) (number .n .given .1) (listed .list .ensures .1)
     (c .before .before .put-rules .ensures)
-
-same-length-3 : tie.Need-same-length-3
-same-length-3 c = search needs
-
-same-length-4 : tie.Need-same-length-4
-same-length-4 c = search needs
 
 returns-2 : tie.Need-returns-2
 returns-2 c =
@@ -79,17 +56,17 @@ pub list-spec : {M : Type 1} → statement M
 list-spec =
     tie.close
     (tie.spec
-    list-requires
-    enum-known-n
+    (found tie.Need-list-requires (λ c κs. search needs))
+    (found tie.Need-enum-known-n (λ c. search needs))
     mul-put-rules
     slice-reshare-prefix-put-rules
     slice-aggregate-put-rules
     put-rules-requires
-    enum-known-f
-    put-refusal-requires
-    same-length
-    same-length-2
+    (found tie.Need-enum-known-f (λ c. search needs))
+    (found tie.Need-put-refusal-requires (λ c κs. search needs))
+    (found tie.Need-same-length (λ c. search needs))
+    (found tie.Need-same-length-2 (λ c. search needs))
     returns
-    same-length-3
-    same-length-4
+    (found tie.Need-same-length-3 (λ c. search needs))
+    (found tie.Need-same-length-4 (λ c. search needs))
     returns-2)

@@ -2,20 +2,12 @@
 use native.Mathlib.Omega.{arith}
 use borrow.Author.Needs.{needs}
 use Rattle.rules.proofs.Both.{house-settles, recipient-settles, house-first, recipient-first, first-within}
+use Rattle.dossier.proofs.Needs.{found}
 use Rattle.rules.proofs.deciding_place.Statement.{statement}
 use Rattle.rules.proofs.deciding_place.Tie as tie
 
-first-applying-requires : tie.Need-first-applying-requires
-first-applying-requires c κs = search needs
-
 returns : tie.Need-returns
 returns c = house-settles _ _ _ _ _ _ _ (c .before .before .first-applying .ensures) (c .if1 .taken)
-
-first-applying-requires-2 : tie.Need-first-applying-requires-2
-first-applying-requires-2 c κs = search needs
-
-add-result : tie.Need-add-result
-add-result c = search needs
 
 returns-2 : tie.Need-returns-2
 returns-2 c =
@@ -42,10 +34,10 @@ pub deciding-place-spec : {M : Type 1} → statement M
 deciding-place-spec =
     tie.close
     (tie.spec
-    first-applying-requires
+    (found tie.Need-first-applying-requires (λ c κs. search needs))
     returns
-    first-applying-requires-2
-    add-result
+    (found tie.Need-first-applying-requires-2 (λ c κs. search needs))
+    (found tie.Need-add-result (λ c. search needs))
     returns-2
     returns-3
     add-result-2

@@ -1,24 +1,26 @@
 -- `view::copy` meets its contract. The invariant: what is left to show, written from its place on, gives the whole. Assumes nothing.
 use mathlib.Core.Path.{_≡_, refl, sym, ap, _∙_}
-use Prim.Native.Nat.{_+_, _-_, _≤_}
+use Prim.Native.Nat.{_+_, _*_, _-_, _≤_}
 use native.Mathlib.Nat.{zero-add}
 use native.Mathlib.Omega.{arith}
 use lib.ListN.{length}
 use lib.Seq.{sets, length-sets}
+use Rattle.dossier.specs.Limits.{width}
 use Rattle.dossier.specs.Bytes.{records}
 use Rattle.view.specs.Inner.{memory, atFirst, shownOf, bytesOf}
 use Rattle.dossier.proofs.Stores.{sets-long}
 use Rattle.view.proofs.Passes.{shownRest, rest-first, bytes-none, written-all, bytes-long, length-next, written-next}
+use Rattle.dossier.proofs.Needs.{found}
 use Rattle.view.proofs.copy.Statement.{statement}
 use Rattle.view.proofs.copy.Tie as tie
 
 abbrev Inv-loop : tie.InvT-loop
-Inv-loop d out₀ n handed₀ limit₀ at₀ i₀ out handed limit at i =
-    (i ≤ records d) × (length handed ≡ length (atFirst .handed)) × (at + length (bytesOf (shownRest (memory handed limit) d i)) ≡ length (bytesOf (shownOf d)))
-    × (sets out at (bytesOf (shownRest (memory handed limit) d i)) ≡ sets out₀ 0 (bytesOf (shownOf d)))
+Inv-loop d out₀ n handed₀ limit₀ to₀ i₀ out handed limit to i =
+    (i ≤ records d) × (length handed ≡ length (atFirst .handed)) × (to * width + length (bytesOf (shownRest (memory handed limit) d i)) ≡ length (bytesOf (shownOf d)))
+    × (sets out (to * width) (bytesOf (shownRest (memory handed limit) d i)) ≡ sets out₀ 0 (bytesOf (shownOf d)))
 
 abbrev μ-loop : tie.MeasureT-loop
-μ-loop d out₀ n handed₀ limit₀ at₀ i₀ out handed limit at i = records d - i
+μ-loop d out₀ n handed₀ limit₀ to₀ i₀ out handed limit to i = records d - i
 
 loop-holds : tie.Need-loop-holds Inv-loop μ-loop
 loop-holds c =
@@ -38,13 +40,7 @@ put-if-requires c κs =
     let more = c .before .before .before .before .before .loop-test .taken in
     let e = length-next (memory (at .handed) (at .limit)) d (at .i) more (c .before .before .shown .ensures .0) (c .before .before .shown .ensures .1) in
     let s = c .before .before .before .before .before .before .before .before .before in
-    (more, omega (arith, at .inv .2, e, s .pre, bytes-long d, sets-long (at .out) (s .args .out .now) (at .at) 0 (bytesOf (shownRest (memory (at .handed) (at .limit)) d (at .i))) (bytesOf (shownOf d)) (at .inv .3)))
-
-add-i : tie.Need-add-i Inv-loop μ-loop
-add-i c = omega arith
-
-loop-less : tie.Need-loop-less Inv-loop μ-loop
-loop-less c = omega arith
+    (more, omega (arith, at .inv .2, e, s .pre, bytes-long d, sets-long (at .out) (s .args .out .now) (at .to * width) 0 (bytesOf (shownRest (memory (at .handed) (at .limit)) d (at .i))) (bytesOf (shownOf d)) (at .inv .3)))
 
 loop-again : tie.Need-loop-again Inv-loop μ-loop
 loop-again c =
@@ -57,7 +53,7 @@ loop-again c =
       omega arith,
       shown .kept .1 .1 .0 ∙ at .inv .1,
       omega (arith, at .inv .2, e, put .ensures .0),
-      written-next (memory (at .handed) (at .limit)) d (at .i) more (shown .ensures .0) (shown .ensures .1) (at .out) (at .at) (put .ensures .1) (put .ensures .0) ∙ at .inv .3,
+      written-next (memory (at .handed) (at .limit)) d (at .i) more (shown .ensures .0) (shown .ensures .1) (at .out) (at .to * width) (put .ensures .1) (put .ensures .0) ∙ at .inv .3,
     )
 
 -- what the loop leaves
@@ -65,7 +61,7 @@ ended : (c : tie.After-loop Inv-loop μ-loop)
     → c .before .loop .out ≡ sets (c .before .before .before .before .args .out .now) 0 (bytesOf (shownOf (c .before .before .before .before .args .d .now)))
 ended c =
     let at = c .before .loop in
-    sym (written-all (memory (at .handed) (at .limit)) (c .before .before .before .before .args .d .now) (at .i) (at .out) (at .at) (c .loop-test .left)) ∙ at .inv .3
+    sym (written-all (memory (at .handed) (at .limit)) (c .before .before .before .before .args .d .now) (at .i) (at .out) (at .to * width) (c .loop-test .left)) ∙ at .inv .3
 
 same-length : tie.Need-same-length Inv-loop μ-loop
 same-length c = ap length (ended c) ∙ simp length-sets
@@ -86,8 +82,8 @@ copy-spec =
     slice-aggregate-shown
     shown-requires
     put-if-requires
-    add-i
-    loop-less
+    (found (tie.Need-add-i Inv-loop μ-loop) (λ c. omega arith))
+    (found (tie.Need-loop-less Inv-loop μ-loop) (λ c. omega arith))
     loop-again
     same-length
     returns)

@@ -8,6 +8,7 @@ use lib.ListN.{length}
 use Rattle.dossier.specs.Bytes.{records}
 use Rattle.view.specs.Inner.{memory, atFirst, shownOf}
 use Rattle.view.proofs.Passes.{shownRest, rest-first, rest-none, counted-next}
+use Rattle.dossier.proofs.Needs.{found}
 use Rattle.view.proofs.count.Statement.{statement}
 use Rattle.view.proofs.count.Tie as tie
 
@@ -26,15 +27,6 @@ slice-aggregate-shown c = sym (c .before .before .loop .inv .2)
 
 shown-requires : tie.Need-shown-requires Inv-loop μ-loop
 shown-requires c κs = c .before .before .loop-test .taken
-
-add-sum : tie.Need-add-sum Inv-loop μ-loop
-add-sum c = omega arith
-
-add-i : tie.Need-add-i Inv-loop μ-loop
-add-i c = omega arith
-
-loop-less : tie.Need-loop-less Inv-loop μ-loop
-loop-less c = omega arith
 
 loop-again : tie.Need-loop-again Inv-loop μ-loop
 loop-again c =
@@ -61,8 +53,8 @@ count-spec =
     loop-holds
     slice-aggregate-shown
     shown-requires
-    add-sum
-    add-i
-    loop-less
+    (found (tie.Need-add-sum Inv-loop μ-loop) (λ c. omega arith))
+    (found (tie.Need-add-i Inv-loop μ-loop) (λ c. omega arith))
+    (found (tie.Need-loop-less Inv-loop μ-loop) (λ c. omega arith))
     loop-again
     returns)

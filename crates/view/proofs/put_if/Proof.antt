@@ -1,11 +1,13 @@
 -- `view::put_if` meets its contract. Assumes nothing.
 use mathlib.Core.Path.{sym, ap, _∙_}
-use Prim.Native.Nat.{ℕ, _+_}
+use Prim.Native.Nat.{_*_}
 use lib.Seq.{sets}
 use native.Mathlib.Nat.{add-zero}
 use native.Mathlib.Omega.{arith}
+use Rattle.dossier.specs.Limits.{width}
 use Rattle.view.proofs.Passes.{shown-bytes, hidden-bytes, shown-width}
 use borrow.Author.Needs.{needs}
+use Rattle.dossier.proofs.Needs.{found}
 use Rattle.view.proofs.put_if.Statement.{statement}
 use Rattle.view.proofs.put_if.Tie as tie
 
@@ -19,15 +21,12 @@ add-result c =
     let s = c .before .before .before .before .before .before .before in
     omega (arith, s .pre .1, shown-width (s .args .d .now) (s .args .i) (s .pre .0) (c .before .before .before .before .if1 .taken), s .good)
 
-same-length : tie.Need-same-length
-same-length c = search needs
-
 returns : tie.Need-returns
 returns c =
     let s = c .before .before .before .before .before .before .before in
     let b = c .before .before .before .before .if1 .taken in (
-      ap (λ (n : ℕ). s .args .at + n) (sym (shown-width (s .args .d .now) (s .args .i) (s .pre .0) b)),
-      c .before .before .put .ensures ∙ ap (sets (s .args .out .now) (s .args .at)) (sym (shown-bytes (s .args .d .now) (s .args .i) b)),
+      omega (arith, shown-width (s .args .d .now) (s .args .i) (s .pre .0) b),
+      c .before .before .put .ensures ∙ ap (sets (s .args .out .now) (s .args .to * width)) (sym (shown-bytes (s .args .d .now) (s .args .i) b)),
     )
 
 returns-2 : tie.Need-returns-2
@@ -37,4 +36,4 @@ returns-2 c =
     (rw (e, add-zero), rw e)
 
 pub put-if-spec : {M : Type 1} → statement M
-put-if-spec = tie.close (tie.spec put-requires add-result same-length returns returns-2)
+put-if-spec = tie.close (tie.spec put-requires add-result (found tie.Need-same-length (λ c. search needs)) returns returns-2)

@@ -2,6 +2,7 @@
 use Prim.Native.Nat.{_-_}
 use lib.ListN.{length}
 use borrow.Author.Needs.{needs}
+use Rattle.dossier.proofs.Needs.{found}
 use Rattle.worked.proofs.say_walk.Statement.{statement}
 use Rattle.worked.proofs.say_walk.Tie as tie
 
@@ -11,69 +12,24 @@ Inv-loop d walk₀ i₀ t8 walk i = Unit {0}
 abbrev μ-loop : tie.MeasureT-loop
 μ-loop d walk₀ i₀ t8 walk i = length d - i
 
-fresh-requires : tie.Need-fresh-requires Inv-loop μ-loop
-fresh-requires c κs = search needs
-
-loop-holds : tie.Need-loop-holds Inv-loop μ-loop
-loop-holds c = search needs
-
-mul-at : tie.Need-mul-at Inv-loop μ-loop
-mul-at c = search needs
-
-add-step : tie.Need-add-step Inv-loop μ-loop
-add-step c = search needs
-
-sub-step : tie.Need-sub-step Inv-loop μ-loop
-sub-step c = search needs
-
-part-step-start : tie.Need-part-step-start Inv-loop μ-loop
-part-step-start c = search needs
-
-part-step-end : tie.Need-part-step-end Inv-loop μ-loop
-part-step-end c = search needs
-
-step-requires : tie.Need-step-requires Inv-loop μ-loop
-step-requires c κs = search needs
-
-slice-aggregate-say : tie.Need-slice-aggregate-say Inv-loop μ-loop
-slice-aggregate-say c = search needs
-
-say-requires : tie.Need-say-requires Inv-loop μ-loop
-say-requires c κs = search needs
-
-say-answer-requires : tie.Need-say-answer-requires Inv-loop μ-loop
-say-answer-requires c κs = search needs
-
-add-i : tie.Need-add-i Inv-loop μ-loop
-add-i c = search needs
-
-loop-less : tie.Need-loop-less Inv-loop μ-loop
-loop-less c = search needs
-
-loop-again : tie.Need-loop-again Inv-loop μ-loop
-loop-again c = search needs
-
-returns : tie.Need-returns Inv-loop μ-loop
-returns c = search needs
-
 pub say-walk-spec : {M : Type 1} → statement M
 say-walk-spec =
     tie.close
     (tie.spec
     Inv-loop
     μ-loop
-    fresh-requires
-    loop-holds
-    mul-at
-    add-step
-    sub-step
-    part-step-start
-    part-step-end
-    step-requires
-    slice-aggregate-say
-    say-requires
-    say-answer-requires
-    add-i
-    loop-less
-    loop-again
-    returns)
+    (found (tie.Need-fresh-requires Inv-loop μ-loop) (λ c κs. search needs))
+    (found (tie.Need-loop-holds Inv-loop μ-loop) (λ c. search needs))
+    (found (tie.Need-mul-at Inv-loop μ-loop) (λ c. search needs))
+    (found (tie.Need-add-step Inv-loop μ-loop) (λ c. search needs))
+    (found (tie.Need-sub-step Inv-loop μ-loop) (λ c. search needs))
+    (found (tie.Need-part-step-start Inv-loop μ-loop) (λ c. search needs))
+    (found (tie.Need-part-step-end Inv-loop μ-loop) (λ c. search needs))
+    (found (tie.Need-step-requires Inv-loop μ-loop) (λ c κs. search needs))
+    (found (tie.Need-slice-aggregate-say Inv-loop μ-loop) (λ c. search needs))
+    (found (tie.Need-say-requires Inv-loop μ-loop) (λ c κs. search needs))
+    (found (tie.Need-say-answer-requires Inv-loop μ-loop) (λ c κs. search needs))
+    (found (tie.Need-add-i Inv-loop μ-loop) (λ c. search needs))
+    (found (tie.Need-loop-less Inv-loop μ-loop) (λ c. search needs))
+    (found (tie.Need-loop-again Inv-loop μ-loop) (λ c. search needs))
+    (found (tie.Need-returns Inv-loop μ-loop) (λ c. search needs)))

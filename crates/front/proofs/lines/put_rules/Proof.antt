@@ -5,6 +5,7 @@ use Rattle.dossier.specs.Bytes.{records}
 use Rattle.programs.proofs.Putting.{Left, left-all, left-next, left-more, left-last, left-none, left-room, last-room}
 use Rattle.front.proofs.RuleLines.{linesFrom, lines-first, lines-none, rules-lines}
 use borrow.Author.Needs.{needs}
+use Rattle.dossier.proofs.Needs.{found}
 use Rattle.front.proofs.lines.put_rules.Statement.{statement}
 use Rattle.front.proofs.lines.put_rules.Tie as tie
 
@@ -14,21 +15,6 @@ Inv-loop out₀ rules count named counted to₀ i₀ out to i =
 
 abbrev μ-loop : tie.MeasureT-loop
 μ-loop out₀ rules count named counted to₀ i₀ out to i = records rules - i
-
-slice-aggregate-put-word : tie.Need-slice-aggregate-put-word Inv-loop μ-loop
-slice-aggregate-put-word c = search needs
-
-put-word-requires : tie.Need-put-word-requires Inv-loop μ-loop
-put-word-requires c κs = search needs
-
-put-number-requires : tie.Need-put-number-requires Inv-loop μ-loop
-put-number-requires c κs = search needs
-
-slice-aggregate-put-word-2 : tie.Need-slice-aggregate-put-word-2 Inv-loop μ-loop
-slice-aggregate-put-word-2 c = search needs
-
-put-word-requires-2 : tie.Need-put-word-requires-2 Inv-loop μ-loop
-put-word-requires-2 c κs = search needs
 
 loop-holds : tie.Need-loop-holds Inv-loop μ-loop
 loop-holds c =
@@ -46,20 +32,11 @@ put-rule-requires c κs = (
   left-room _ (rw (lines-first _ _ _ (c .before .loop-test .taken)) at (c .before .before .loop .inv .1)),
 )
 
-add-i : tie.Need-add-i Inv-loop μ-loop
-add-i c = search needs
-
-loop-less : tie.Need-loop-less Inv-loop μ-loop
-loop-less c = search needs
-
 loop-again : tie.Need-loop-again Inv-loop μ-loop
 loop-again c =
     let turn = c .before .before .before .before in
     let left = rw (lines-first _ _ _ (turn .loop-test .taken)) at (turn .before .loop .inv .1) in
     (search needs, left-more left (c .before .before .put-rule .ensures))
-
-same-length : tie.Need-same-length Inv-loop μ-loop
-same-length c = search needs
 
 returns : tie.Need-returns Inv-loop μ-loop
 returns c =
@@ -77,15 +54,15 @@ put-rules-spec =
     (tie.spec
     Inv-loop
     μ-loop
-    slice-aggregate-put-word
-    put-word-requires
-    put-number-requires
-    slice-aggregate-put-word-2
-    put-word-requires-2
+    (found (tie.Need-slice-aggregate-put-word Inv-loop μ-loop) (λ c. search needs))
+    (found (tie.Need-put-word-requires Inv-loop μ-loop) (λ c κs. search needs))
+    (found (tie.Need-put-number-requires Inv-loop μ-loop) (λ c κs. search needs))
+    (found (tie.Need-slice-aggregate-put-word-2 Inv-loop μ-loop) (λ c. search needs))
+    (found (tie.Need-put-word-requires-2 Inv-loop μ-loop) (λ c κs. search needs))
     loop-holds
     put-rule-requires
-    add-i
-    loop-less
+    (found (tie.Need-add-i Inv-loop μ-loop) (λ c. search needs))
+    (found (tie.Need-loop-less Inv-loop μ-loop) (λ c. search needs))
     loop-again
-    same-length
+    (found (tie.Need-same-length Inv-loop μ-loop) (λ c. search needs))
     returns)

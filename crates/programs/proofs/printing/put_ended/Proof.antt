@@ -3,11 +3,9 @@ use mathlib.Core.Path.{refl}
 use native.Mathlib.Omega.{arith}
 use Rattle.programs.proofs.Putting.{puts-there, first-room, left-first, left-last, last-room}
 use borrow.Author.Needs.{needs}
+use Rattle.dossier.proofs.Needs.{found}
 use Rattle.programs.proofs.printing.put_ended.Statement.{statement}
 use Rattle.programs.proofs.printing.put_ended.Tie as tie
-
-put-number-requires : tie.Need-put-number-requires
-put-number-requires c κs = search needs
 
 slice-write-out : tie.Need-slice-write-out
 slice-write-out c =
@@ -21,9 +19,6 @@ add-result c =
     let puts = puts-there (first-room _ (start .pre)) (c .before .before .put-number .ensures) in
     omega (arith, last-room (left-first (start .pre) puts) .enough)
 
-same-length : tie.Need-same-length
-same-length c = search needs
-
 returns : tie.Need-returns
 returns c =
     let start = c .before .before .before .before .before in
@@ -32,4 +27,10 @@ returns c =
 
 pub put-ended-spec : {M : Type 1} → statement M
 put-ended-spec =
-    tie.close (tie.spec put-number-requires slice-write-out add-result same-length returns)
+    tie.close
+    (tie.spec
+    (found tie.Need-put-number-requires (λ c κs. search needs))
+    slice-write-out
+    add-result
+    (found tie.Need-same-length (λ c. search needs))
+    returns)

@@ -1,23 +1,9 @@
 -- `printing::put_number` meets its contract: the digits that it puts are those of the number. Assumes nothing.
 use Rattle.programs.proofs.Decimals.{number-text}
 use borrow.Author.Needs.{needs}
+use Rattle.dossier.proofs.Needs.{found}
 use Rattle.programs.proofs.printing.put_number.Statement.{statement}
 use Rattle.programs.proofs.printing.put_number.Tie as tie
-
-decimal-requires : tie.Need-decimal-requires
-decimal-requires c κs = search needs
-
-array-share-prefix-digits : tie.Need-array-share-prefix-digits
-array-share-prefix-digits c = search needs
-
-slice-aggregate-put-word : tie.Need-slice-aggregate-put-word
-slice-aggregate-put-word c = search needs
-
-put-word-requires : tie.Need-put-word-requires
-put-word-requires c κs = search needs
-
-same-length : tie.Need-same-length
-same-length c = search needs
 
 returns : tie.Need-returns
 returns c =
@@ -29,9 +15,9 @@ pub put-number-spec : {M : Type 1} → statement M
 put-number-spec =
     tie.close
     (tie.spec
-    decimal-requires
-    array-share-prefix-digits
-    slice-aggregate-put-word
-    put-word-requires
-    same-length
+    (found tie.Need-decimal-requires (λ c κs. search needs))
+    (found tie.Need-array-share-prefix-digits (λ c. search needs))
+    (found tie.Need-slice-aggregate-put-word (λ c. search needs))
+    (found tie.Need-put-word-requires (λ c κs. search needs))
+    (found tie.Need-same-length (λ c. search needs))
     returns)

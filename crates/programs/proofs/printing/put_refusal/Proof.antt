@@ -4,26 +4,12 @@ use native.Mathlib.Omega.{arith}
 use lib.Seq.{length-take-le}
 use Rattle.programs.proofs.Putting.{puts-within, puts-front}
 use borrow.Author.Needs.{needs}
+use Rattle.dossier.proofs.Needs.{found}
 use Rattle.programs.proofs.printing.put_refusal.Statement.{statement}
 use Rattle.programs.proofs.printing.put_refusal.Tie as tie
 
-slice-aggregate-write-refusal : tie.Need-slice-aggregate-write-refusal
-slice-aggregate-write-refusal c = search needs
-
-write-refusal-requires : tie.Need-write-refusal-requires
-write-refusal-requires c κs = search needs
-
-array-share-prefix-line : tie.Need-array-share-prefix-line
-array-share-prefix-line c = search needs
-
 slice-aggregate-put-word : tie.Need-slice-aggregate-put-word
 slice-aggregate-put-word c = sym (length-take-le _ _ (puts-within (c .before .before .before .write-refusal .ensures)))
-
-put-word-requires : tie.Need-put-word-requires
-put-word-requires c κs = search needs
-
-same-length : tie.Need-same-length
-same-length c = search needs
 
 returns : tie.Need-returns
 returns c =
@@ -37,10 +23,10 @@ pub put-refusal-spec : {M : Type 1} → statement M
 put-refusal-spec =
     tie.close
     (tie.spec
-    slice-aggregate-write-refusal
-    write-refusal-requires
-    array-share-prefix-line
+    (found tie.Need-slice-aggregate-write-refusal (λ c. search needs))
+    (found tie.Need-write-refusal-requires (λ c κs. search needs))
+    (found tie.Need-array-share-prefix-line (λ c. search needs))
     slice-aggregate-put-word
-    put-word-requires
-    same-length
+    (found tie.Need-put-word-requires (λ c κs. search needs))
+    (found tie.Need-same-length (λ c. search needs))
     returns)

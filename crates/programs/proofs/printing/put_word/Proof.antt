@@ -4,6 +4,7 @@ use native.Mathlib.Omega.{arith}
 use lib.ListN.{length, drop}
 use Rattle.programs.proofs.Putting.{Left, none-place, none-area, puts-place, puts-area, word-start, word-next, word-end}
 use borrow.Author.Needs.{needs}
+use Rattle.dossier.proofs.Needs.{found}
 use Rattle.programs.proofs.printing.put_word.Statement.{statement}
 use Rattle.programs.proofs.printing.put_word.Tie as tie
 
@@ -16,38 +17,14 @@ abbrev μ-loop : tie.MeasureT-loop
 returns : tie.Need-returns Inv-loop μ-loop
 returns c = (none-place _ _ _ (omega arith), none-area _ _ _ (omega arith))
 
-sub-if2 : tie.Need-sub-if2 Inv-loop μ-loop
-sub-if2 c = search needs
-
 returns-2 : tie.Need-returns-2 Inv-loop μ-loop
 returns-2 c = (none-place _ _ _ (omega arith), none-area _ _ _ (omega arith))
 
 loop-holds : tie.Need-loop-holds Inv-loop μ-loop
 loop-holds c = (search needs, word-start (record { enough = omega arith }))
 
-shared-slice-read-out : tie.Need-shared-slice-read-out Inv-loop μ-loop
-shared-slice-read-out c = search needs
-
-add-out : tie.Need-add-out Inv-loop μ-loop
-add-out c = search needs
-
-slice-write-out : tie.Need-slice-write-out Inv-loop μ-loop
-slice-write-out c = search needs
-
-add-i : tie.Need-add-i Inv-loop μ-loop
-add-i c = search needs
-
-loop-less : tie.Need-loop-less Inv-loop μ-loop
-loop-less c = search needs
-
 loop-again : tie.Need-loop-again Inv-loop μ-loop
 loop-again c = (search needs, word-next (c .before .before .loop .i) (c .before .before .loop .inv .1) (c .before .loop-test .taken))
-
-add-result : tie.Need-add-result Inv-loop μ-loop
-add-result c = search needs
-
-same-length : tie.Need-same-length Inv-loop μ-loop
-same-length c = search needs
 
 returns-3 : tie.Need-returns-3 Inv-loop μ-loop
 returns-3 c = let puts = word-end (c .before .loop .i) (c .before .loop .inv .1) (c .before .loop .inv .0) (c .loop-test .left) in (puts-place puts, puts-area puts)
@@ -59,15 +36,15 @@ put-word-spec =
     Inv-loop
     μ-loop
     returns
-    sub-if2
+    (found (tie.Need-sub-if2 Inv-loop μ-loop) (λ c. search needs))
     returns-2
     loop-holds
-    shared-slice-read-out
-    add-out
-    slice-write-out
-    add-i
-    loop-less
+    (found (tie.Need-shared-slice-read-out Inv-loop μ-loop) (λ c. search needs))
+    (found (tie.Need-add-out Inv-loop μ-loop) (λ c. search needs))
+    (found (tie.Need-slice-write-out Inv-loop μ-loop) (λ c. search needs))
+    (found (tie.Need-add-i Inv-loop μ-loop) (λ c. search needs))
+    (found (tie.Need-loop-less Inv-loop μ-loop) (λ c. search needs))
     loop-again
-    add-result
-    same-length
+    (found (tie.Need-add-result Inv-loop μ-loop) (λ c. search needs))
+    (found (tie.Need-same-length Inv-loop μ-loop) (λ c. search needs))
     returns-3)

@@ -3,14 +3,9 @@ use Rattle.programs.specs.Printing.{refusalText}
 use Rattle.programs.proofs.Putting.{left-all, left-next, left-more, left-last, left-room, last-room}
 use Rattle.programs.proofs.Words.{refusal-room}
 use borrow.Author.Needs.{needs}
+use Rattle.dossier.proofs.Needs.{found}
 use Rattle.programs.proofs.printing.write_refusal.Statement.{statement}
 use Rattle.programs.proofs.printing.write_refusal.Tie as tie
-
-slice-aggregate-put-word : tie.Need-slice-aggregate-put-word
-slice-aggregate-put-word c = search needs
-
-put-word-requires : tie.Need-put-word-requires
-put-word-requires c κs = search needs
 
 put-ended-requires : tie.Need-put-ended-requires
 unfolding refusalText
@@ -40,9 +35,6 @@ put-ended-requires-3 c κs =
     last-room
     (left-more (left-more (left-next _ (left-all room) (word .put-word .ensures)) (number .put-ended .ensures)) (list .put-ended2 .ensures))
 
-same-length : tie.Need-same-length
-same-length c = search needs
-
 returns : tie.Need-returns
 unfolding refusalText
 returns c =
@@ -60,10 +52,10 @@ pub write-refusal-spec : {M : Type 1} → statement M
 write-refusal-spec =
     tie.close
     (tie.spec
-    slice-aggregate-put-word
-    put-word-requires
+    (found tie.Need-slice-aggregate-put-word (λ c. search needs))
+    (found tie.Need-put-word-requires (λ c κs. search needs))
     put-ended-requires
     put-ended-requires-2
     put-ended-requires-3
-    same-length
+    (found tie.Need-same-length (λ c. search needs))
     returns)
