@@ -27,7 +27,7 @@ infixr 20 _before_
 abbrev pub inElements : List ℕ → Refusals
 inElements d f = Row d (f .number) (f .list) (f .position)
 
--- 8: the output area is shorter than the records to be written, of w bytes or a dossier's
+-- 8: the output area is shorter than the records of w bytes that are to be written; the same of a dossier's or a rule list's
 abbrev pub tooShortBy : ℕ → ℕ → List ℕ → Refusals
 tooShortBy w n area = row 8 0 0 (length area < n * w)
 

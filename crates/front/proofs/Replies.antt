@@ -14,9 +14,8 @@ use Rattle.dossier.specs.declared.Refusal.{Refusal}
 use Rattle.dossier.specs.declared.Reply.{Reply}
 use Rattle.dossier.specs.declared.Reply.the-variants.{Count, Refused}
 use Rattle.dossier.proofs.Sounds.{counted-sound, sound-counted}
-use Rattle.dossier.proofs.Widths.{length-joined}
-use Rattle.rules.specs.Rules.{targetAt, rulesOf, ruleBytes, listBytes}
-use Rattle.rules.proofs.RoundTrip.{rules-back}
+use Rattle.rules.specs.Rules.{targetAt, rulesOf, listBytes}
+use Rattle.rules.proofs.RoundTrip.{list-length, rules-back}
 use Rattle.listing.specs.Area.{listedOf, listReply, listArea}
 use Rattle.listing.proofs.ListedSound.{listed-sound}
 use Rattle.marks.specs.Marks.{first}
@@ -32,9 +31,6 @@ use Rattle.front.proofs.RuleLines.{rules-room}
 -- ---- the lister
 
 module _ {d area out : List ℕ} (short : Short d) (areas : Areas area out) where
-  list-length : length (listBytes (listedOf d)) ≡ length (listedOf d) * width
-  list-length = length-joined width ruleBytes (λ r. refl) (listedOf d)
-
   list-counts : listReply d area ≡ Count (length (listedOf d))
   unfolding listReply roomBy
   list-counts =
@@ -49,7 +45,7 @@ module _ {d area out : List ℕ} (short : Short d) (areas : Areas area out) wher
   list-room =
       let small : (k : ℕ) → k < records (listBytes (listedOf d)) → targetAt (listBytes (listedOf d)) k < 10000 =
       λ k l. omega (arith, listed-sound d (short .sound) .targets k l, short .sound .few) in
-      rw (rules-back (listedOf d)) at (rules-room out (listBytes (listedOf d)) small (omega (arith, list-length, short .few)) (areas .room))
+      rw (rules-back (listedOf d)) at (rules-room out (listBytes (listedOf d)) small (omega (arith, list-length (listedOf d), short .few)) (areas .room))
 
   -- it never refuses
   pub list-never : {r : Reply} {f : Refusal} → r ≡ listReply d area → r ≡ Refused f → ⊥
@@ -70,7 +66,7 @@ module _ {d area out : List ℕ} (short : Short d) (areas : Areas area out) wher
     part-rules =
         ap rulesOf
         (ap (take (n * width)) (w ∙ list-area)
-        ∙ take-at (listBytes (listedOf d)) (drop (length (listBytes (listedOf d))) area) (n * width) (omega (arith, list-length, number)))
+        ∙ take-at (listBytes (listedOf d)) (drop (length (listBytes (listedOf d))) area) (n * width) (omega (arith, list-length (listedOf d), number)))
         ∙ rules-back (listedOf d)
 
     pub part-room : Room out 0 (rulesText (rulesOf (take (n * width) written)))

@@ -3,9 +3,7 @@ use crate::making;
 use crate::making::front;
 use crate::saying;
 use crate::saying::say;
-use dossier::Answer;
-use dossier::Decision;
-use marks::Walk;
+use crate::walking;
 
 // What the reader says of bytes.
 fn say_read(name: &[u8], d: &[u8]) {
@@ -22,27 +20,10 @@ fn read_line(line: &[u8]) {
     say_read(line, front(&d, n));
 }
 
-// What a walk answers the last of these records.
-fn last_answer(d: &[u8]) -> Answer {
-    let mut walk = Walk::fresh();
-    let mut last = Answer::Given(Decision::None);
-    let mut i: usize = 0;
-    while i < d.len() / 8 {
-        let at = i * 8;
-        let stepped = walk.step(&d[at..at + 8]);
-        let answer = stepped.answer;
-        let next = stepped.walk;
-        last = answer;
-        walk = next;
-        i += 1;
-    }
-    last
-}
-
 fn say_last(name: &[u8], d: &[u8]) {
     say(name);
     say(b", walked, the last: ");
-    saying::say_answer(last_answer(d));
+    saying::say_answer(walking::last_answer(d, false));
     say(b"\n");
 }
 

@@ -3,29 +3,13 @@ mod edges;
 mod lists;
 mod making;
 mod saying;
+mod walking;
 
 use dossier::Reply;
 use least::Judgement;
 use making::front;
-use marks::Walk;
 use saying::Combining;
 use saying::say;
-
-// What the walk answers, record after record.
-fn say_walk(d: &[u8]) {
-    let mut walk = Walk::fresh();
-    let mut i: usize = 0;
-    while i < d.len() / 8 {
-        let at = i * 8;
-        let stepped = walk.step(&d[at..at + 8]);
-        let answer = stepped.answer;
-        let next = stepped.walk;
-        say(b" ");
-        saying::say_answer(answer);
-        walk = next;
-        i += 1;
-    }
-}
 
 // The rules that a dossier's marks list; the marks that are read back from them are left in `back`.
 fn say_list(d: &[u8], rules: &mut [u8], back: &mut [u8]) {
@@ -78,7 +62,7 @@ fn say_walked(d: &[u8], back: &[u8]) {
     say(b"; read back");
     saying::say_marks(back);
     say(b"; walked");
-    say_walk(d);
+    walking::last_answer(d, true);
 }
 
 // What a list answers for each element under this combining, with nothing in the recipient's.

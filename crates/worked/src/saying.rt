@@ -24,11 +24,6 @@ pub(crate) fn say_number(n: usize) {
     io::print_decimal(STDOUT_FILENO, n as u64);
 }
 
-// A byte as a wider number.
-fn wide(x: u8) -> usize {
-    x as usize
-}
-
 // A refusal and its three numbers.
 pub(crate) fn say_refusal(f: Refusal) {
     say(b"refused ");
@@ -134,7 +129,7 @@ pub(crate) fn say_rule(rule: &[u8]) {
         say(b"no rule");
         return;
     }
-    say_number(wide(rule[0]));
+    say_number(dossier::two(rule[0], rule[1]));
     say_effect(rule[2]);
     say_reach(rule[3]);
 }

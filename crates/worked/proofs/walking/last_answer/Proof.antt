@@ -1,19 +1,19 @@
--- `say_walk` is safe and ends: the measure is `length d - i`. Assumes nothing.
+-- `last_answer` is safe and ends: the measure is `length d - i`. Assumes nothing.
 use Prim.Native.Nat.{_-_}
 use lib.ListN.{length}
 use borrow.Author.Needs.{needs}
 use Rattle.dossier.proofs.Needs.{found}
-use Rattle.worked.proofs.say_walk.Statement.{statement}
-use Rattle.worked.proofs.say_walk.Tie as tie
+use Rattle.worked.proofs.walking.last_answer.Statement.{statement}
+use Rattle.worked.proofs.walking.last_answer.Tie as tie
 
 abbrev Inv-loop : tie.InvT-loop
-Inv-loop d walk₀ i₀ t8 walk i = Unit {0}
+Inv-loop d heard walk₀ last₀ i₀ t10 walk last i = Unit {0}
 
 abbrev μ-loop : tie.MeasureT-loop
-μ-loop d walk₀ i₀ t8 walk i = length d - i
+μ-loop d heard walk₀ last₀ i₀ t10 walk last i = length d - i
 
-pub say-walk-spec : {M : Type 1} → statement M
-say-walk-spec =
+pub last-answer-spec : {M : Type 1} → statement M
+last-answer-spec =
     tie.close
     (tie.spec
     Inv-loop
