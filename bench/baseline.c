@@ -15,13 +15,17 @@ static int refused(uint64_t reply) { return reply >> 63 != 0; }
 
 /* ---- reading */
 
-static unsigned fault(unsigned low, unsigned high, unsigned depth, unsigned decision, unsigned mark, unsigned spare)
+enum { DEEPEST = 1023, DEPTHS };
+
+static size_t depth_of(const uint8_t *r) { return r[0] + 256u * r[3]; }
+
+static unsigned fault(size_t low, size_t high, size_t depth, unsigned decision, unsigned mark)
 {
-    if (depth > 63)
+    if (depth > DEEPEST)
         return 5;
     if (depth < low || depth > high)
         return 4;
-    if (decision > 1 || mark > 3 || spare > 0)
+    if (decision > 1 || mark > 3)
         return 6;
     return 0;
 }
@@ -35,14 +39,15 @@ uint64_t base_read(const uint8_t *d, size_t len)
     if (len > 32768)
         return refusal(3, 0, 0);
     size_t n = len / 8;
-    unsigned low = 0, high = 0;
+    size_t low = 0, high = 0;
     for (size_t i = 0; i < n; i++) {
         const uint8_t *r = d + i * 8;
-        unsigned number = fault(low, high, r[0], r[1], r[2], r[3]);
+        size_t depth = depth_of(r);
+        unsigned number = fault(low, high, depth, r[1], r[2]);
         if (number)
             return refusal(number, 0, i);
         low = 1;
-        high = r[0] + 1u;
+        high = depth + 1;
     }
     return n;
 }
@@ -70,8 +75,9 @@ static int below(const uint8_t *d, size_t upper, size_t lower)
 {
     if (lower < upper)
         return 0;
+    size_t shallowest = depth_of(d + upper * 8);
     for (size_t i = upper + 1; i <= lower; i++)
-        if (d[i * 8] <= d[upper * 8])
+        if (depth_of(d + i * 8) <= shallowest)
             return 0;
     return 1;
 }
@@ -82,8 +88,9 @@ static int below_reading_all(const uint8_t *d, size_t upper, size_t lower)
     if (lower < upper)
         return 0;
     int inside = 1;
+    size_t shallowest = depth_of(d + upper * 8);
     for (size_t i = upper + 1; i <= lower; i++)
-        inside &= d[i * 8] > d[upper * 8];
+        inside &= depth_of(d + i * 8) > shallowest;
     return inside;
 }
 
@@ -160,24 +167,26 @@ static unsigned hands(unsigned mark, unsigned decision, unsigned above)
 
 void base_walk_fresh(nv_walk *w)
 {
-    memset(w->handed, 2, 64);
+    memset(w->handed, 2, DEPTHS);
     w->depth = 0;
     w->taken = 0;
 }
 
+/* Every place is looked at, so that the compiler can take many at once. */
 static int could_be_left(const nv_walk *w)
 {
-    if (w->depth == 0 ? w->taken > 1 : (w->taken <= w->depth || w->taken > 4096 || w->depth > 63))
+    if (w->depth == 0 ? w->taken > 1 : (w->taken <= w->depth || w->taken > 4096 || w->depth > DEEPEST))
         return 0;
-    size_t open = w->taken ? w->depth + 1 : 0;
-    unsigned above = 2;
-    for (size_t i = 0; i < 64; i++) {
-        unsigned x = w->handed[i];
-        if (i < open ? (x > 1 && x != above) : x != 2)
-            return 0;
+    size_t open = w->taken ? w->depth + 1 : 0, i = 0;
+    uint8_t above = 2, wrong = 0;
+    for (; i < open; i++) {
+        uint8_t x = w->handed[i];
+        wrong |= (uint8_t)((x > 1) & (x != above));
         above = x;
     }
-    return 1;
+    for (; i < DEPTHS; i++)
+        wrong |= w->handed[i] != 2;
+    return wrong == 0;
 }
 
 uint64_t base_walk_step(nv_walk *w, const uint8_t *r, size_t len)
@@ -188,13 +197,62 @@ uint64_t base_walk_step(nv_walk *w, const uint8_t *r, size_t len)
         return refusal(2, 0, 0);
     if (w->taken >= 4096)
         return refusal(3, 0, 0);
-    unsigned number = fault(w->taken ? 1 : 0, w->taken ? (unsigned)w->depth + 1 : 0, r[0], r[1], r[2], r[3]);
+    size_t depth = depth_of(r);
+    unsigned number = fault(w->taken ? 1 : 0, w->taken ? w->depth + 1 : 0, depth, r[1], r[2]);
     if (number)
         return refusal(number, 0, w->taken);
+    unsigned above = depth ? w->handed[depth - 1] : 2;
+    w->handed[depth] = (uint8_t)hands(r[2], r[1], above);
+    for (size_t i = depth + 1; i < DEPTHS; i++)
+        w->handed[i] = 2;
+    w->depth = depth;
+    w->taken++;
+    return r[2] == 0 ? above : r[1];
+}
+
+/* ---- the walk as it was before request M-103: 64 places, and an end at the first that is wrong */
+
+enum { WERE_DEEPEST = 63, WERE_DEPTHS };
+
+void base_walk_fresh_64(nv_walk *w)
+{
+    memset(w->handed, 2, WERE_DEPTHS);
+    w->depth = 0;
+    w->taken = 0;
+}
+
+static int could_be_left_64(const nv_walk *w)
+{
+    if (w->depth == 0 ? w->taken > 1 : (w->taken <= w->depth || w->taken > 4096 || w->depth > WERE_DEEPEST))
+        return 0;
+    size_t open = w->taken ? w->depth + 1 : 0;
+    unsigned above = 2;
+    for (size_t i = 0; i < WERE_DEPTHS; i++) {
+        unsigned x = w->handed[i];
+        if (i < open ? (x > 1 && x != above) : x != 2)
+            return 0;
+        above = x;
+    }
+    return 1;
+}
+
+uint64_t base_walk_step_64(nv_walk *w, const uint8_t *r, size_t len)
+{
+    if (!could_be_left_64(w))
+        return refusal(17, 0, 0);
+    if (len != 8)
+        return refusal(2, 0, 0);
+    if (w->taken >= 4096)
+        return refusal(3, 0, 0);
+    if (r[0] > WERE_DEEPEST)
+        return refusal(5, 0, w->taken);
+    unsigned number = fault(w->taken ? 1 : 0, w->taken ? w->depth + 1 : 0, r[0], r[1], r[2]);
+    if (number || r[3])
+        return refusal(number ? number : 6, 0, w->taken);
     size_t depth = r[0];
     unsigned above = depth ? w->handed[depth - 1] : 2;
     w->handed[depth] = (uint8_t)hands(r[2], r[1], above);
-    for (size_t i = depth + 1; i < 64; i++)
+    for (size_t i = depth + 1; i < WERE_DEPTHS; i++)
         w->handed[i] = 2;
     w->depth = depth;
     w->taken++;
@@ -241,9 +299,9 @@ uint64_t base_list(const uint8_t *d, size_t len, uint8_t *out, size_t out_len)
     size_t rules = count(d, n);
     if (out_len < rules * 8)
         return refusal(8, 0, 0);
-    size_t stack[64], top = 0;
+    size_t stack[DEPTHS], top = 0;
     for (size_t p = 0; p < n; p++) {
-        size_t depth = d[p * 8];
+        size_t depth = depth_of(d + p * 8);
         while (top > depth)
             out = put_own(d, stack[--top], out);
         stack[depth] = p;
@@ -285,9 +343,9 @@ uint64_t base_read_back(uint8_t *d, size_t len, const uint8_t *rules, size_t rul
         size_t t = target_of(r);
         plan[t] = r[3] == 0 ? 1 : r[2] == d[t * 8 + 1] ? 2 : 3;
     }
-    size_t stack[64], top = 0, at = 0;
+    size_t stack[DEPTHS], top = 0, at = 0;
     for (size_t p = 0; p <= n; p++) {
-        size_t depth = p < n ? d[p * 8] : 0;
+        size_t depth = p < n ? depth_of(d + p * 8) : 0;
         while (top > depth) {
             size_t q = stack[--top];
             if (!own_is(d, q, plan[q], rules, m, at))
@@ -328,10 +386,10 @@ static unsigned planned(unsigned marks, unsigned above) { return marks >> (above
 /* The best sums of a branch for each value from above; its chosen marks go into the plan, two bits for each value. */
 static sums branch(const uint8_t *d, size_t n, uint8_t *plan, size_t at, size_t *next)
 {
-    unsigned depth = d[at * 8];
+    size_t depth = depth_of(d + at * 8);
     sums s = {0, 0, 0};
     size_t p = at + 1;
-    while (p < n && d[p * 8] > depth) {
+    while (p < n && depth_of(d + p * 8) > depth) {
         sums b = branch(d, n, plan, p, &p);
         s.none += b.none;
         s.deny += b.deny;
@@ -353,11 +411,11 @@ uint64_t base_fold(uint8_t *d, size_t len)
     uint64_t n = base_read(d, len);
     if (refused(n))
         return n;
-    uint8_t plan[4096], handed[64];
+    uint8_t plan[4096], handed[DEPTHS];
     size_t next;
     sums s = branch(d, n, plan, 0, &next);
     for (size_t p = 0; p < n; p++) {
-        size_t depth = d[p * 8];
+        size_t depth = depth_of(d + p * 8);
         unsigned above = depth ? handed[depth - 1] : 2;
         unsigned mark = planned(plan[p], above);
         d[p * 8 + 2] = (uint8_t)mark;
@@ -382,9 +440,9 @@ uint64_t base_judge(const uint8_t *d, size_t len)
     if (refused(n))
         return n;
     size_t given = count(d, n);
-    uint8_t plan[4096], handed[64];
+    uint8_t plan[4096], handed[DEPTHS];
     for (size_t p = 0; p < n; p++) {
-        size_t depth = d[p * 8];
+        size_t depth = depth_of(d + p * 8);
         unsigned above = depth ? handed[depth - 1] : 2;
         unsigned mark = d[p * 8 + 2], decision = d[p * 8 + 1], answer = mark == 0 ? above : decision;
         if (answer != decision)
@@ -404,10 +462,10 @@ enum { IMPOSSIBLE = 8193 };
  * permit. */
 static sums branch_over(const uint8_t *d, size_t n, uint8_t *plan, unsigned turn, size_t at, size_t *next)
 {
-    unsigned depth = d[at * 8];
+    size_t depth = depth_of(d + at * 8);
     sums s = {0, 0, 0};
     size_t p = at + 1;
-    while (p < n && d[p * 8] > depth) {
+    while (p < n && depth_of(d + p * 8) > depth) {
         sums b = branch_over(d, n, plan, turn, p, &p);
         s.none += b.none;
         s.deny += b.deny;
@@ -435,11 +493,11 @@ static unsigned over(unsigned a, unsigned b) { return a <= b ? a : b; }
 
 static uint64_t fold_over(uint8_t *d, size_t n, unsigned turn)
 {
-    uint8_t plan[4096], handed[64];
+    uint8_t plan[4096], handed[DEPTHS];
     size_t next;
     sums s = branch_over(d, n, plan, turn, 0, &next);
     for (size_t p = 0; p < n; p++) {
-        size_t depth = d[p * 8];
+        size_t depth = depth_of(d + p * 8);
         unsigned above = depth ? handed[depth - 1] : 2;
         unsigned mark = planned(plan[p], above);
         d[p * 8 + 2] = (uint8_t)mark;
@@ -457,9 +515,9 @@ uint64_t base_fold_for(uint8_t *d, size_t len, size_t combining)
 static uint64_t judge_over(const uint8_t *d, size_t n, unsigned turn)
 {
     size_t given = count(d, n);
-    uint8_t plan[4096], handed[64];
+    uint8_t plan[4096], handed[DEPTHS];
     for (size_t p = 0; p < n; p++) {
-        size_t depth = d[p * 8];
+        size_t depth = depth_of(d + p * 8);
         unsigned above = depth ? handed[depth - 1] : 2;
         unsigned mark = d[p * 8 + 2], decision = d[p * 8 + 1] ^ turn, down = over(hands(mark, decision, above), above);
         unsigned answer = over(mark == 0 ? above : decision, down);
@@ -484,10 +542,10 @@ uint64_t base_view(const uint8_t *d, size_t len, uint8_t *out, size_t out_len)
     uint64_t n = base_read(d, len);
     if (refused(n))
         return n;
-    uint8_t handed[64], shown[4096];
-    size_t total = 0, limit = 64;
+    uint8_t handed[DEPTHS], shown[4096];
+    size_t total = 0, limit = DEPTHS;
     for (size_t p = 0; p < n; p++) {
-        size_t depth = d[p * 8];
+        size_t depth = depth_of(d + p * 8);
         shown[p] = 0;
         if (depth > limit)
             continue;
@@ -496,7 +554,7 @@ uint64_t base_view(const uint8_t *d, size_t len, uint8_t *out, size_t out_len)
         shown[p] = (mark == 0 ? above : decision) == 1;
         total += shown[p];
         handed[depth] = (uint8_t)hands(mark, decision, above);
-        limit = shown[p] ? 64 : depth;
+        limit = shown[p] ? DEPTHS : depth;
     }
     if (out_len < total * 8)
         return refusal(8, 0, 0);

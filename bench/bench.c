@@ -1,6 +1,6 @@
 /* Times each C function beside the same work in plain C (baseline.c), in one binary and one run: the ratio of the two
- * times, and how the library's time grows when the number of elements doubles; then what stopping early saves where one
- * element is decided. Times alone say little, ratios more. Different dossiers are taken in turn, with as many elements in
+ * times, and how the library's time grows when the number of elements doubles; then the walk by the record, and what
+ * stopping early saves where one element is decided. Times alone say little, ratios more. Different dossiers are taken in turn, with as many elements in
  * all for every size: a processor learns the way through a few that it sees again and again. */
 #include "baseline.h"
 
@@ -81,17 +81,21 @@ static uint32_t draw(uint32_t below)
 /* the same in all dossiers, so that one list can stand for all */
 static uint32_t key_of(size_t i) { return (uint32_t)i * 2654435761u; }
 
-/* 0 a chain that starts again at depth 1 once it is 63 deep, 1 a star, 2 any depths; one element in so many is denied */
+/* 0 a chain that starts again at depth 1 once it is 63 deep, 1 a star, 2 any depths to 63, 3 a chain that starts again
+ * once it is 1,023 deep; one element in so many is denied */
 static void make(uint8_t *d, size_t n, int shape, uint32_t denied)
 {
     unsigned depth = 0;
     for (size_t i = 0; i < n; i++) {
         if (i > 0)
-            depth = shape == 0 ? depth % 63 + 1 : shape == 1 ? 1 : 1 + draw(depth < 63 ? depth + 1 : 63);
+            depth = shape == 0   ? depth % 63 + 1
+                    : shape == 1 ? 1
+                    : shape == 2 ? 1 + draw(depth < 63 ? depth + 1 : 63)
+                                 : depth % 1023 + 1;
         d[i * 8] = (uint8_t)depth;
         d[i * 8 + 1] = draw(denied) != 0;
         d[i * 8 + 2] = 0;
-        d[i * 8 + 3] = 0;
+        d[i * 8 + 3] = (uint8_t)(depth / 256);
         uint32_t key = key_of(i);
         memcpy(d + i * 8 + 4, &key, 4);
     }
@@ -161,6 +165,7 @@ static uint64_t steps(void (*fresh)(nv_walk *), uint64_t (*step)(nv_walk *, cons
 
 static uint64_t lib_steps(void) { return steps(nv_walk_fresh, nv_walk_step); }
 static uint64_t c_steps(void) { return steps(base_walk_fresh, base_walk_step); }
+static uint64_t c_steps_64(void) { return steps(base_walk_fresh_64, base_walk_step_64); }
 
 /* what is compared, from so many elements on */
 static const struct {
@@ -261,7 +266,8 @@ static void prepare(set *s, size_t n, int shape)
 }
 
 static const size_t sizes[] = {64, 512, 4096};
-static const char *const shapes[] = {"chain", "star", "random"};
+static const char *const shapes[] = {"chain", "star", "random", "deep"};
+enum { DEEP = 3, DEEPLY = 1024 };
 
 static void differ(work a, work b)
 {
@@ -272,37 +278,67 @@ static void differ(work a, work b)
         }
 }
 
-/* Each function beside the baseline's, with what it takes for half the elements. */
+/* One function beside the baseline's, with what it takes for half the elements. */
+static void row(size_t k, int shape, size_t n)
+{
+    if (n < kinds[k].from)
+        return;
+    pair beside[ROUNDS], doubled[ROUNDS];
+    prepare(&halves, n / 2, shape);
+    prepare(&wholes, n, shape);
+    unsigned half_turns = turns_for(kinds[k].lib, &halves);
+    unsigned lib_turns = turns_for(kinds[k].lib, &wholes), c_turns = turns_for(kinds[k].c, &wholes);
+    for (size_t i = 0; i < ROUNDS; i++) {
+        double half = once(kinds[k].lib, &halves, half_turns), lib = once(kinds[k].lib, &wholes, lib_turns);
+        beside[i] = (pair){lib, once(kinds[k].c, &wholes, c_turns)};
+        doubled[i] = (pair){lib, half};
+    }
+    pair m = middle(beside), grown = middle(doubled);
+    text(kinds[k].name, 12);
+    text(shapes[shape], 8);
+    number(n, 8);
+    number((uint64_t)m.a, 13);
+    number((uint64_t)m.b, 11);
+    fraction(m.a / m.b, 7);
+    fraction(grown.a / grown.b, 8);
+    differ(kinds[k].lib, kinds[k].c);
+    end();
+}
+
 static void beside_c(void)
 {
     text("function    shape   elements   library ns       C ns  ratio  growth per doubling", 0);
     end();
-    for (size_t k = 0; k < sizeof kinds / sizeof *kinds; k++)
-        for (int shape = 0; shape < 3; shape++)
-            for (int s = 0; s < 3; s++) {
-                if (sizes[s] < kinds[k].from)
-                    continue;
-                pair beside[ROUNDS], doubled[ROUNDS];
-                prepare(&halves, sizes[s] / 2, shape);
-                prepare(&wholes, sizes[s], shape);
-                unsigned half_turns = turns_for(kinds[k].lib, &halves);
-                unsigned lib_turns = turns_for(kinds[k].lib, &wholes), c_turns = turns_for(kinds[k].c, &wholes);
-                for (size_t i = 0; i < ROUNDS; i++) {
-                    double half = once(kinds[k].lib, &halves, half_turns), lib = once(kinds[k].lib, &wholes, lib_turns);
-                    beside[i] = (pair){lib, once(kinds[k].c, &wholes, c_turns)};
-                    doubled[i] = (pair){lib, half};
-                }
-                pair m = middle(beside), grown = middle(doubled);
-                text(kinds[k].name, 12);
-                text(shapes[shape], 8);
-                number(sizes[s], 8);
-                number((uint64_t)m.a, 13);
-                number((uint64_t)m.b, 11);
-                fraction(m.a / m.b, 7);
-                fraction(grown.a / grown.b, 8);
-                differ(kinds[k].lib, kinds[k].c);
-                end();
-            }
+    for (size_t k = 0; k < sizeof kinds / sizeof *kinds; k++) {
+        for (int shape = 0; shape < DEEP; shape++)
+            for (int s = 0; s < 3; s++)
+                row(k, shape, sizes[s]);
+        row(k, DEEP, DEEPLY);
+    }
+}
+
+/* The walk by the record: the baseline with 64 places, as before request M-103, and the library with 1,024. */
+static void by_the_record(void)
+{
+    text("walk        shape   elements    before ns   after ns  a record", 0);
+    end();
+    for (int shape = 0; shape < DEEP; shape++) {
+        pair pairs[ROUNDS];
+        prepare(&wholes, MOST, shape);
+        unsigned before_turns = turns_for(c_steps_64, &wholes), after_turns = turns_for(lib_steps, &wholes);
+        for (size_t i = 0; i < ROUNDS; i++) {
+            double before = once(c_steps_64, &wholes, before_turns);
+            pairs[i] = (pair){before / MOST, once(lib_steps, &wholes, after_turns) / MOST};
+        }
+        pair m = middle(pairs);
+        text("", 12);
+        text(shapes[shape], 8);
+        number(MOST, 8);
+        number((uint64_t)(m.a + 0.5), 13);
+        number((uint64_t)(m.b + 0.5), 11);
+        differ(c_steps_64, lib_steps);
+        end();
+    }
 }
 
 /* Deciding far behind the targets: the baseline reading every record between, as before request M-101, and the library. */
@@ -334,6 +370,8 @@ int main(void)
 {
     aim_far();
     beside_c();
+    end();
+    by_the_record();
     end();
     before_and_after();
     return 0;

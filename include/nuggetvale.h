@@ -1,9 +1,10 @@
 /* Nuggetvale for C: folding access decisions into few rules, and judging, listing, reading back and deciding them.
  *
- * A dossier is a run of eight-byte element records: depth, set decision (0 deny, 1 permit), mark (0 n, 1 -, 2 +, 3 ±),
- * a zero byte, and a key of four bytes, the lowest first. A rule list is a run of eight-byte rule records: target
- * position in two bytes, the lower first, effect (0 deny, 1 permit), reach (0 self, 1 all), and the target's key.
- * A dossier has 1 to 4,096 elements and depths 0 to 63; a rule list has 0 to 8,192 rules.
+ * A dossier is a run of eight-byte element records: the depth's low byte, set decision (0 deny, 1 permit), mark (0 n,
+ * 1 -, 2 +, 3 ±), the depth's high byte, and a key of four bytes, the lowest first. A rule list is a run of eight-byte
+ * rule records: target position in two bytes, the lower first, effect (0 deny, 1 permit), reach (0 self, 1 all), and the
+ * target's key. A dossier has 1 to 4,096 elements and depths 0 to 1,023; a rule list has 0 to 8,192 rules. A dossier
+ * that was accepted when depths went to 63 has zero in the high bytes, and gets the same replies as then.
  *
  * No call asks its caller to check anything first: every sequence of bytes gets a definite reply.
  *
@@ -22,6 +23,10 @@
 extern "C" {
 #endif
 
+/* How many bytes of the stack a call needs at most: folding and judging go down level by level, and the others don't. */
+#define NV_STACK 163840
+#define NV_STACK_SMALL 8192
+
 #define NV_REFUSED(reply) ((reply) >> 63 != 0)
 #define NV_NUMBER(reply) ((unsigned)((reply) >> 40 & 255))
 #define NV_LIST(reply) ((unsigned)((reply) >> 32 & 255))
@@ -30,7 +35,7 @@ extern "C" {
 /* The walk that a gateway keeps: what each depth hands down (0 deny, 1 permit, 2 none), the depth of the last accepted
  * record, and how many were accepted. */
 typedef struct nv_walk {
-    uint8_t handed[64];
+    uint8_t handed[1024];
     size_t depth;
     size_t taken;
 } nv_walk;

@@ -7,7 +7,7 @@ from functools import cache, partial
 from math import inf
 
 RECORD = 8
-DEEPEST = 63
+DEEPEST = 1023
 MOST_ELEMENTS = 4096
 MOST_RULES = 8192
 DENY, PERMIT, NONE = 0, 1, 2
@@ -30,7 +30,8 @@ def records(data):
 
 class Element:
     def __init__(self, record):
-        self.depth, self.decision, self.mark, self.spare = record[0], record[1], record[2], record[3]
+        self.depth = record[0] + 256 * record[3]
+        self.decision, self.mark = record[1], record[2]
         self.key = int.from_bytes(record[4:8], "little")
 
 
@@ -52,7 +53,7 @@ def element_fault(element, first, last_depth):
         return 4
     if not first and not 1 <= element.depth <= last_depth + 1:
         return 4
-    if element.decision > 1 or element.mark > 3 or element.spare != 0:
+    if element.decision > 1 or element.mark > 3:
         return 6
     return 0
 
@@ -248,7 +249,7 @@ def read_back(dossier, rules):
 
 # ---- the walk that a gateway keeps: what each depth hands down, the last record's depth, the records taken
 
-FRESH = (bytes([NONE] * 64), 0, 0)
+FRESH = (bytes([NONE] * (DEEPEST + 1)), 0, 0)
 
 
 def could_be_left(state):
@@ -281,7 +282,7 @@ def walk_step(state, record):
     above = handed[element.depth - 1] if element.depth else NONE
     answer, hands = walked(element.mark, element.decision, above)
     now = bytes(handed[:element.depth]) + bytes([hands])
-    return answer, (now + bytes([NONE]) * (64 - len(now)), element.depth, taken + 1)
+    return answer, (now + bytes([NONE]) * (DEEPEST + 1 - len(now)), element.depth, taken + 1)
 
 
 # ---- least marks: a step, as by the walk, says for a mark what an element is answered and what it hands down

@@ -10,4 +10,5 @@ pub mod Two
 pub mod Verdicts
 pub mod Three
 pub mod Combinings
+pub mod Stored
 pub mod Twelve

@@ -1,4 +1,4 @@
--- Elements as trees, and what lies below an element. Document 01 gives best counts by them: "An element's best counts follow from those of its children, through at most 64 levels".
+-- Elements as trees, and what lies below an element. Document 01 gives best counts by them: "An element's best counts follow from those of its children", through at most 1,024 levels since request M-103.
 -- Assumes nothing: these are definitions.
 use Prim.Native.Nat.{ℕ, suc, _+_, _-_}
 use mathlib.Core.Bool.{cond}

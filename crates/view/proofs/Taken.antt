@@ -1,7 +1,7 @@
 -- Records of a sound dossier, taken at some of its positions: if their depths are in order, their bytes are a sound dossier. Assumes nothing.
 use mathlib.Core.Path.{_≡_, refl, sym, ap, ap₂, _∙_}
 use Prim.Native.Nat.{ℕ, suc, _*_, _≤_, _<_}
-use native.Mathlib.Nat.{add-zero, zero-add}
+use native.Mathlib.Nat.{zero-add}
 use native.Mathlib.Omega.{arith}
 use mathlib.Core.List.{List, [], _∷_, _++_, map}
 use lib.ListN.{length, getD}
@@ -9,7 +9,7 @@ use Rattle.dossier.specs.Limits.{width, mostElements}
 use Rattle.dossier.specs.Bytes.{records, byteOf, run, recordAt, joined, depthAt, elementAt, elementsOf}
 use Rattle.dossier.specs.Order.{Ordered}
 use Rattle.dossier.specs.Reading.{Sound}
-use Rattle.dossier.proofs.Laws.{depth-byte}
+use Rattle.dossier.proofs.Laws.{depth-bytes}
 use Rattle.dossier.proofs.Runs.{run-at, run-same, run-map}
 use Rattle.dossier.proofs.Widths.{byte-joined, length-joined, record-bytes, records-joined, run-all}
 
@@ -35,8 +35,8 @@ module _ (d ps : List ℕ) (there : There d ps) (s : Sound d) where
 
   taken-depth : (i : ℕ) → i < length ps → depthAt taken i ≡ depthAt d (getD ps i 0)
   taken-depth i l =
-      let first : getD taken (i * width) 0 ≡ getD d (getD ps i 0 * width) 0 = simp add-zero at (taken-byte i 0 l (omega arith)) in
-      depth-byte taken i (rw (records-joined width (bytesAt d) (λ p. refl) ps (omega arith)) l) ∙ first ∙ sym (depth-byte d (getD ps i 0) (there i l))
+      depth-bytes taken i (rw (records-joined width (bytesAt d) (λ p. refl) ps (omega arith)) l)
+      ∙ rw (taken-byte i 0 l (omega arith), taken-byte i 3 l (omega arith)) (sym (depth-bytes d (getD ps i 0) (there i l)))
 
   taken-element : (i : ℕ) → i < length ps → elementAt taken i ≡ elementAt d (getD ps i 0)
   taken-element i l =
@@ -70,5 +70,4 @@ module _ (d ps : List ℕ) (there : There d ps) (s : Sound d) where
         shallow = λ i l. rw (taken-depth i (within i l)) (s .shallow (getD ps i 0) (there i (within i l)));
         decisions = λ i l. rw (taken-byte i 1 (within i l) (omega arith)) (s .decisions (getD ps i 0) (there i (within i l)));
         marks = λ i l. rw (taken-byte i 2 (within i l) (omega arith)) (s .marks (getD ps i 0) (there i (within i l)));
-        spares = λ i l. taken-byte i 3 (within i l) (omega arith) ∙ s .spares (getD ps i 0) (there i (within i l));
       })

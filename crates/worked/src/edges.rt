@@ -27,18 +27,24 @@ fn say_last(name: &[u8], d: &[u8]) {
     say(b"\n");
 }
 
-// Two chains, read and walked, of which the second is one element too deep.
+// A chain, cut and then read and walked: past depth 63, which was the deepest before byte 3 was part of a depth, down to the deepest, and one too deep.
+fn say_depths(d: &[u8]) {
+    say_read(b"depths 0 to 64", front(d, 520));
+    say_read(b"depths 0 to 1023", front(d, 8192));
+    say_read(b"depths 0 to 1024", front(d, 8200));
+    say_last(b"depths 0 to 64", front(d, 520));
+    say_last(b"depths 0 to 1023", front(d, 8192));
+    say_last(b"depths 0 to 1024", front(d, 8200));
+}
+
 fn say_chains(d: &mut [u8]) {
     making::put_chain(d);
-    say_read(b"depths 0 to 63", front(d, 512));
-    say_read(b"depths 0 to 64", front(d, 520));
-    say_last(b"depths 0 to 63", front(d, 512));
-    say_last(b"depths 0 to 64", front(d, 520));
+    say_depths(d);
 }
 
 // The area of the chains.
 fn chains() {
-    let mut d = [0u8; 520];
+    let mut d = [0u8; 8200];
     say_chains(&mut d);
 }
 
@@ -66,10 +72,12 @@ fn lengths() {
 
 // Records with several faults: 5 is told before 4 and 6, and 4 before 6.
 fn faults() {
-    let deep = [70u8, 0, 0, 0, 0, 0, 0, 0];
-    say_read(b"depth 70 first", &deep);
-    let marked = [0u8, 0, 0, 0, 0, 0, 0, 0, 70, 0, 9, 0, 0, 0, 0, 0];
-    say_read(b"depth 70 with mark 9 after depth 0", &marked);
+    let deep = [0u8, 0, 0, 4, 0, 0, 0, 0];
+    say_read(b"byte 3 of 4 first", &deep);
+    let root = [0u8, 0, 0, 1, 0, 0, 0, 0];
+    say_read(b"byte 3 of 1 first", &root);
+    let marked = [0u8, 0, 0, 0, 0, 0, 0, 0, 6, 0, 9, 4, 0, 0, 0, 0];
+    say_read(b"depth 1030 with mark 9 after depth 0", &marked);
     let set = [
         0u8,
         0,

@@ -96,7 +96,9 @@ pub(crate) fn put_flat(d: &mut [u8]) {
 pub(crate) fn put_chain(d: &mut [u8]) {
     let mut i: usize = 0;
     while i < d.len() / 8 {
-        d[i * 8] = (i % 256) as u8;
+        let low = (i % 256) as u8;
+        let high = (i / 256 % 256) as u8;
+        dossier::store(&mut *d, i, [low, 0, 0, high, 0, 0, 0, 0]);
         i += 1;
     }
 }

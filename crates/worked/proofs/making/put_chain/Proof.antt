@@ -20,9 +20,9 @@ put-chain-spec =
     Inv-loop
     μ-loop
     (found (tie.Need-loop-holds Inv-loop μ-loop) (λ c. search needs))
-    (found (tie.Need-cast-d Inv-loop μ-loop) (λ c. search needs))
-    (found (tie.Need-mul-d Inv-loop μ-loop) (λ c. search needs))
-    (found (tie.Need-slice-write-d Inv-loop μ-loop) (λ c. search needs))
+    (found (tie.Need-cast-low Inv-loop μ-loop) (λ c. search needs))
+    (found (tie.Need-cast-high Inv-loop μ-loop) (λ c. search needs))
+    (found (tie.Need-store-requires Inv-loop μ-loop) (λ c κs. search needs))
     (found (tie.Need-add-i Inv-loop μ-loop) (λ c. search needs))
     (found (tie.Need-loop-less Inv-loop μ-loop) (λ c. search needs))
     (found (tie.Need-loop-again Inv-loop μ-loop) (λ c. search needs))
