@@ -1,7 +1,8 @@
 /* Times each C function beside the same work in plain C (baseline.c), in one binary and one run: the ratio of the two
  * times, and how the library's time grows when the number of elements doubles; then the walk by the record, and what
- * stopping early saves where one element is decided. Times alone say little, ratios more. Different dossiers are taken in turn, with as many elements in
- * all for every size: a processor learns the way through a few that it sees again and again. */
+ * stopping early saves where one element is decided. Times alone say little, ratios more. Different dossiers are taken
+ * in turn, with as many elements in all for every size: a processor learns the way through a few that it sees again and
+ * again. */
 #include "baseline.h"
 
 long write(int, const void *, size_t);

@@ -16,7 +16,7 @@ use Rattle.dossier.specs.Replies.{refusal, After}
 use Rattle.dossier.proofs.Laws.{depth-bytes}
 use Rattle.dossier.proofs.Runs.{run-same}
 use Rattle.dossier.proofs.Rows.{stops}
-use Rattle.dossier.proofs.Sounds.{cond-zero, Known, known, all-counted, not-faulty, counted-sound, sound-free}
+use Rattle.dossier.proofs.Sounds.{cond-zero, NoFaults, known, all-counted, not-faulty, counted-sound, sound-free}
 use Rattle.listing.specs.Area.{listedOf, listReply, listArea}
 use Rattle.rules.specs.Combining.{combiningOf}
 use Rattle.marks.specs.Marks.{first}
@@ -76,7 +76,7 @@ too-deep d i l = simp (lt-ltb oldDeepest (oldDepth d i) l)
 -- ---- a dossier that the old reader accepts
 
 module _ (d : List ℕ) (o : OldSound d) where
-  was : Known (oldFault d) d
+  was : NoFaults (oldFault d) d
   unfolding oldRead
   was = known (oldFault d) d (o .0) (o .1)
 
