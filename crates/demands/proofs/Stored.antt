@@ -1,6 +1,6 @@
 -- Old and new dossiers: what the old reader accepts is read now with the same elements, so that listing, folding and judging stay; and a depth over 63 is refused by the old reader at the first record of depth 64. Assumes nothing.
-use mathlib.Core.Path.{_≡_, refl, sym, subst, _∙_}
-use mathlib.Core.Logic.{_↔_, _⊎_, inl, inr}
+use mathlib.Core.Path.{_≡_, refl, sym, _∙_}
+use mathlib.Core.Logic.{_⊎_, inl, inr}
 use Prim.Native.Nat.{ℕ, zero, suc, _≤_, _<_}
 use native.Mathlib.Decide.{decLe}
 use native.Mathlib.Omega.{arith}
@@ -10,23 +10,15 @@ use borrow.Author.Count.{below-more}
 use borrow.Author.Tests.{ltb-false, le-ltb, lt-ltb}
 use Rattle.dossier.specs.Bytes.{records, byteOf, depthAt, elementAt, elementsOf}
 use Rattle.dossier.specs.Reading.{fieldsAt, lowAfter, highAfter, lastBefore, faultAt, readOf, Sound}
-use Rattle.dossier.specs.declared.Reply.{Reply}
 use Rattle.dossier.specs.declared.Reply.the-variants as reply
-use Rattle.dossier.specs.Replies.{refusal, After}
+use Rattle.dossier.specs.Replies.{refusal}
 use Rattle.dossier.proofs.Laws.{depth-bytes}
 use Rattle.dossier.proofs.Runs.{run-same}
 use Rattle.dossier.proofs.Rows.{stops}
 use Rattle.dossier.proofs.Sounds.{cond-zero, NoFaults, known, all-counted, not-faulty, counted-sound, sound-free}
 use Rattle.listing.specs.Area.{listedOf, listReply, listArea}
-use Rattle.rules.specs.Combining.{combiningOf}
-use Rattle.marks.specs.Marks.{first}
-use Rattle.marks.specs.Walking.{walked}
-use Rattle.least.specs.Least.{Answers, byRules}
-use Rattle.least.specs.Folding.{Folds, askedFor}
-use Rattle.least.specs.Judging.{Reports}
-use Rattle.least.specs.declared.Judgement.{Judgement}
-use Rattle.least.specs.declared.Judgement.the-variants.{Reported, Refused}
-use Rattle.demands.specs.Stored.{oldDeepest, oldDepth, oldElementAt, oldElements, oldBefore, oldFault, oldRead, oldListed, oldListReply, oldListArea, OldFolds, OldReports, oldAsked, OldSound, First64, Stored}
+use Rattle.least.specs.Folding.{askedFor}
+use Rattle.demands.specs.Stored.{oldDeepest, oldDepth, oldElementAt, oldElements, oldBefore, oldFault, oldRead, oldListed, oldListReply, oldListArea, oldAsked, OldSound, First64, Stored}
 
 -- ---- one record
 
@@ -131,26 +123,6 @@ module _ (d : List ℕ) (o : OldSound d) where
   unfolding askedFor oldAsked
   same-asked c = rw same-read
 
-  -- the same after what is asked
-  module _ (A : Answers) (x y : Reply) (e : x ≡ y) where
-    same-folds : (r : Reply) (new : List ℕ) → After reply.Refused x d (Folds A d) r new ↔ After reply.Refused y d (OldFolds A d) r new
-    same-folds r new = subst (λ (z : Reply). After reply.Refused z d (Folds A d) r new ↔ After reply.Refused y d (OldFolds A d) r new) (sym e) (go y)
-      where
-        go : (z : Reply) → After reply.Refused z d (Folds A d) r new ↔ After reply.Refused z d (OldFolds A d) r new
-        go (reply.Count n) = (
-          λ f. record { marks = f .marks; folds = rw same-elements at (f .folds); written = f .written; counted = rw same-elements at (f .counted) },
-          λ f. record { marks = f .marks; folds = rw same-elements (f .folds); written = f .written; counted = rw same-elements (f .counted) },
-        )
-        go (reply.Refused f) = (λ p. p, λ p. p)
-
-    same-reports : (j : Judgement) → After Refused x tt (Reports A d) j tt ↔ After Refused y tt (OldReports A d) j tt
-    same-reports j = subst (λ (z : Reply). After Refused z tt (Reports A d) j tt ↔ After Refused y tt (OldReports A d) j tt) (sym e) (go y j)
-      where
-        go : (z : Reply) (j : Judgement) → After Refused z tt (Reports A d) j tt ↔ After Refused z tt (OldReports A d) j tt
-        go (reply.Count n) (Reported r) = (λ p. rw same-elements at p, λ p. rw same-elements p)
-        go (reply.Count n) (Refused f) = (λ p. p, λ p. p)
-        go (reply.Refused f) j = (λ p. p, λ p. p)
-
 -- ---- a sound dossier with a depth over 63
 
 -- the first of the first n records that is deeper, or there is none
@@ -228,9 +200,9 @@ stored = record {
   reads = same-read;
   elements = same-elements;
   lists = λ d area o. (same-reply d o area, same-area d o area);
-  folds = λ d r new o. same-folds d o (walked first) (readOf d) (oldRead d) (same-read d o) r new;
-  folds-for = λ c d r new o. same-folds d o (byRules (combiningOf c)) (askedFor d c) (oldAsked d c) (same-asked d o c) r new;
-  judges = λ d j o. same-reports d o (walked first) (readOf d) (oldRead d) (same-read d o) j;
-  judges-for = λ c d j o. same-reports d o (byRules (combiningOf c)) (askedFor d c) (oldAsked d c) (same-asked d o c) j;
+  folds = λ d r new o. rw (same-read d o, same-elements d o) (λ f. f, λ f. f);
+  folds-for = λ c d r new o. rw (same-asked d o c, same-elements d o) (λ f. f, λ f. f);
+  judges = λ d j o. rw (same-read d o, same-elements d o) (λ f. f, λ f. f);
+  judges-for = λ c d j o. rw (same-asked d o c, same-elements d o) (λ f. f, λ f. f);
   refuses = old-refuses;
 }

@@ -1,6 +1,6 @@
 -- What a public function promises fixes its reply and what each buffer lent to it then holds, on every input. Document 01, "How much each contract says", (a). Assumes nothing: these are definitions.
 -- These promise equations, so that reply and buffer are what a function of the inputs says (and two that are the same are equal, `by-equation` in proofs/Determined.antt):
---   dossier: refused, fault, read, key, below
+--   dossier: refused, depth, fault, read, two, key, store, below
 --   rules: read_rules, applies, decide, deciding
 --   marks: from_above, hand_on, decided, Walk::fresh
 --   listing: list, count

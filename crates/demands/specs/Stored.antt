@@ -7,23 +7,23 @@ use mathlib.Core.List.{List}
 use mathlib.Core.Bool.{cond}
 use lib.ListN.{length}
 use lib.Dec.{ltb}
-use Rattle.dossier.specs.Elements.{Mark, Element, marksOf, effectOf, markOf}
-use Rattle.dossier.specs.Bytes.{records, byteOf, run, depthAt, keyAt, elementsOf, withMarks}
+use Rattle.dossier.specs.Elements.{Element, marksOf, effectOf, markOf}
+use Rattle.dossier.specs.Bytes.{records, byteOf, run, depthAt, keyAt, elementsOf}
 use Rattle.dossier.specs.Replies.{refusal, andThen, afterwards, After, roomFor, fronted}
 use Rattle.dossier.specs.Reading.{lowAfter, highAfter, readBy, readOf, Sound}
 use Rattle.dossier.specs.declared.Reply.{Reply}
 use Rattle.dossier.specs.declared.Reply.the-variants as reply
 use Rattle.rules.specs.Rules.{Rule, listBytes}
-use Rattle.rules.specs.Combining.{lastCombining, combiningOf}
+use Rattle.rules.specs.Combining.{combiningOf}
 use Rattle.marks.specs.Marks.{first}
 use Rattle.marks.specs.Walking.{walked}
 use Rattle.listing.specs.Listing.{listOf}
 use Rattle.listing.specs.Area.{listReply, listArea}
-use Rattle.least.specs.Least.{Answers, byRules, count, Fold}
-use Rattle.least.specs.Folding.{Folded, FoldedFor}
-use Rattle.least.specs.Judging.{Judges, Judged, JudgedFor}
+use Rattle.least.specs.Least.{byRules}
+use Rattle.least.specs.Folding.{FoldsOf, Folded, combiningFor, FoldedFor}
+use Rattle.least.specs.Judging.{ReportsOf, Judged, JudgedFor}
 use Rattle.least.specs.declared.Judgement.{Judgement}
-use Rattle.least.specs.declared.Judgement.the-variants.{Reported, Refused}
+use Rattle.least.specs.declared.Judgement.the-variants.{Refused}
 
 -- ---- the old kind
 
@@ -76,34 +76,22 @@ oldListReply d area = andThen (oldRead d) (roomFor (length (oldListed d)) area)
 unfoldable pub oldListArea : List ℕ → List ℕ → List ℕ
 oldListArea d area = afterwards (oldListReply d area) area (fronted area (listBytes (oldListed d)))
 
--- the folder: its marks are written and no other byte, and the reply is the number of rules that they list
-pub record OldFolds (A : Answers) (d : List ℕ) (r : Reply) (new : List ℕ) : Type 0 where
-  pub marks : List Mark
-  pub folds : Fold A (oldElements d) marks
-  pub written : new ≡ withMarks d 0 marks
-  pub counted : r ≡ reply.Count (count (oldElements d) marks)
-
--- the judge: a report on the marks that the dossier holds
-abbrev pub OldReports : Answers → List ℕ → Judgement → Unit {0} → Type 0
-OldReports A d (Reported r) nothing = Judges A (oldElements d) (marksOf (oldElements d)) r
-OldReports A d (Refused f) nothing = ⊥
-
--- by the walk: 1 to 6
+-- the folder and the judge, by the walk: 1 to 6
 abbrev pub OldFolded : List ℕ → Reply → List ℕ → Type 0
-OldFolded d r new = After reply.Refused (oldRead d) d (OldFolds (walked first) d) r new
+OldFolded d r new = After reply.Refused (oldRead d) d (FoldsOf (walked first) (oldElements d) d) r new
 
 abbrev pub OldJudged : List ℕ → Judgement → Type 0
-OldJudged d j = After Refused (oldRead d) tt (OldReports (walked first) d) j tt
+OldJudged d j = After Refused (oldRead d) tt (ReportsOf (walked first) (oldElements d)) j tt
 
 -- for a combining number: 1 to 6, then 11
 unfoldable pub oldAsked : List ℕ → ℕ → Reply
-oldAsked d c = andThen (oldRead d) (cond (ltb lastCombining c) (refusal 11 0 0) (reply.Count (records d)))
+oldAsked d c = andThen (oldRead d) (combiningFor d c)
 
 abbrev pub OldFoldedFor : ℕ → List ℕ → Reply → List ℕ → Type 0
-OldFoldedFor c d r new = After reply.Refused (oldAsked d c) d (OldFolds (byRules (combiningOf c)) d) r new
+OldFoldedFor c d r new = After reply.Refused (oldAsked d c) d (FoldsOf (byRules (combiningOf c)) (oldElements d) d) r new
 
 abbrev pub OldJudgedFor : ℕ → List ℕ → Judgement → Type 0
-OldJudgedFor c d j = After Refused (oldAsked d c) tt (OldReports (byRules (combiningOf c)) d) j tt
+OldJudgedFor c d j = After Refused (oldAsked d c) tt (ReportsOf (byRules (combiningOf c)) (oldElements d)) j tt
 
 -- ---- old and new
 
