@@ -1,4 +1,6 @@
 // What other languages call: the library's functions, each reply packed into one number. A slice passes as a pointer and then a length.
+#![tactic(auto)]
+
 ghost use Rattle.std.specs.Prelude.{◌≡◌, length};
 ghost use Rattle.dossier.specs.Limits.{width};
 ghost use Rattle.dossier.specs.Elements.{decision_number};

@@ -1,4 +1,6 @@
 // Reads a dossier on standard input, folds it, and prints its rules.
+#![tactic(auto)]
+
 fn main() {
     front::whole();
 }

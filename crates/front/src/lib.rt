@@ -1,4 +1,6 @@
 // The program: reads a dossier on standard input, folds it, and prints its rules or why it is refused.
+#![tactic(auto)]
+
 mod lines;
 
 ghost use Rattle.std.specs.Prelude.{◌+◌, ◌*◌, ◌≤◌, length};

@@ -1,4 +1,6 @@
 // What programs share: reading an input of which the front is kept, and putting words, numbers and lines into an area.
+#![tactic(auto)]
+
 mod input;
 mod printing;
 

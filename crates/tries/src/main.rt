@@ -2,6 +2,8 @@
 // markings by the definition alone (list the rules, decide every element by those that apply, count), finds the least count and
 // the first least marking, and holds the library's folder and judge to them. It shares nothing with the library but the layout
 // of the bytes.
+#![tactic(auto)]
+
 mod answers;
 mod library;
 mod tree;

@@ -1,4 +1,6 @@
 // The cases that were worked by hand, run through the library: a line for each says what was given and what came out.
+#![tactic(auto)]
+
 mod edges;
 mod lists;
 mod making;

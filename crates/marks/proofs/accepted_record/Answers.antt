@@ -1,0 +1,24 @@
+-- `marks::accepted_record` meets its contract: the depth is handed on as in a lent array, and the deeper ones are cleared. Assumes nothing.
+use Rattle.marks.proofs.Takes.{accepted-is}
+use Rattle.marks.proofs.accepted_record.Goals as goal
+
+pub returns : goal.returns
+returns c =
+    let s = c in
+    let a = s.args in
+    let lent = c in
+    accepted-is
+    (record { handed = a.handed-1.now; depth = a.depth; taken = a.taken })
+    a.depth
+    a.decision
+    a.mark
+    _
+    _
+    _
+    _
+    s.requires.0
+    s.requires.1
+    lent.hand_on-answer.ensures.0
+    lent.hand_on-answer.ensures.1
+    c.clear.ensures
+    c.decided.ensures

@@ -1,0 +1,10 @@
+-- `marks::clear` meets its contract. The invariant: clearing what is held now from i on clears all. Assumes nothing.
+use Rattle.std.proofs.Common.{◌≡◌, ◌-◌, length}
+use Rattle.marks.specs.Inner.{cleared}
+use Rattle.marks.proofs.clear.Given as goal
+
+abbrev pub invariant-loop-i : goal.invariant-loop-i
+invariant-loop-i l = (length l.handed ≡ length l.from) × (cleared l.handed l.i ≡ cleared l.from l.initial.handed)
+
+abbrev pub decreases-loop-i : goal.decreases-loop-i
+decreases-loop-i l = length l.from - l.i

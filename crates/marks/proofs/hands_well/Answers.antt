@@ -1,0 +1,26 @@
+-- `marks::hands_well` meets its contract. The invariant of both loops: all depths pass the test exactly where nothing wrong was gathered and those from i on pass it. Assumes nothing.
+use Rattle.std.proofs.Common.{◌-◌, sym, ◌∙◌, arith}
+use Rattle.marks.proofs.Laws.{gathers-first, gathers_open, gathers_closed, gathers-all}
+use Rattle.marks.proofs.hands_well.Goals as goal
+
+pub loop-i-init : goal.loop-i-init
+loop-i-init c = (omega arith, gathers-first _ _)
+
+pub loop-i-preserved : goal.loop-i-preserved
+loop-i-preserved c =
+    let s = c in
+    let l = c.loop-i in
+    let more = c.loop-i-test.true in
+    (omega arith, l.invariant.1 ∙ gathers_open _ _ s.args.handed.now l.i _ _ (omega (arith, s.requires, more)) more c.wrong_open-wrong.ensures)
+
+pub loop-i-2-init : goal.loop-i-2-init
+loop-i-2-init c = let l = c.loop-i in (omega arith, omega arith, l.invariant.1)
+
+pub loop-i-2-preserved : goal.loop-i-2-preserved
+loop-i-2-preserved c =
+    let l = c.loop-i-2 in
+    let more = c.loop-i-2-test.true in
+    (omega arith, omega arith, l.invariant.2 ∙ gathers_closed _ _ _ l.i _ _ more l.invariant.0 (c.wrong_closed-wrong.ensures _))
+
+pub returns : goal.returns
+returns c = let l = c.loop-i-2 in sym (l.invariant.2 ∙ gathers-all _ _ _ _ _ c.loop-i-2-test.false)

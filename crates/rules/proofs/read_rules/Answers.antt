@@ -1,0 +1,45 @@
+-- `rules::read_rules` meets its contract. The invariant: what is left to read from rule i on decides the reply. Assumes nothing.
+use Prim.Native.Nat.{◌-◌}
+use mathlib.Core.Path.{◌≡◌, sym, ◌∙◌}
+use native.Mathlib.Nat.{sub-zero}
+use native.Mathlib.Omega.{arith}
+use borrow.Author.Rules.{rules}
+use borrow.Author.Tests.{le-ltb, lt-ltb, eq-eqb, ne_eqb}
+use Rattle.rules.specs.ReadingRules.{fits_at, read_rules_of}
+use Rattle.rules.proofs.FirstFaulty.{faulty-on, faulty-here, faulty-none, fits-here}
+use Rattle.rules.proofs.read_rules.Goals as goal
+use Rattle.rules.proofs.read_rules.Goals.{After-fits_rule}
+
+pub returns-then-n-ne0 : goal.returns-then-n-ne0
+unfolding read_rules_of
+returns-then-n-ne0 c = c.refused.ensures ∙ simp (ne_eqb _ _ c.if-n-ne0.true)
+
+pub returns-then-n-gt-MOST_BYTES : goal.returns-then-n-gt-MOST_BYTES
+unfolding read_rules_of
+returns-then-n-gt-MOST_BYTES c = c.refused-then-n-gt-MOST_BYTES.ensures ∙ simp (eq-eqb _ _ c.if-n-ne0.false, lt-ltb _ _ c.if-n-gt-MOST_BYTES.true)
+
+pub loop-i-init : goal.loop-i-init
+unfolding read_rules_of
+loop-i-init c = (omega arith, simp (sub-zero, eq-eqb _ _ c.if-n-ne0.false, le-ltb _ _ c.if-n-gt-MOST_BYTES.false))
+
+-- what `fits_rule` answers is whether rule i fits
+here : (s : After-fits_rule)
+    → let a = s.args in
+    fits_at a.d.now a.rules.now s.loop-i.i ≡ s.fits_rule.result
+here s =
+    fits-here _ _ s.loop-i.i _ _ _ s.loop-i-test.true s.two-target.ensures s.key-key.ensures s.fits_rule.ensures
+
+pub loop-i-preserved : goal.loop-i-preserved
+loop-i-preserved c =
+    let s = c in
+    let at = s.loop-i in
+    (omega arith, sym (faulty-on _ _ _ _ at.i s.loop-i-test.true (here (goal.at.loop-i-preserved c).After-fits_rule ∙ c.if-fits_rule.true)) ∙ at.invariant.1)
+
+pub returns-else-fits_rule : goal.returns-else-fits_rule
+returns-else-fits_rule c =
+    let s = c in
+    let at = s.loop-i in
+    c.refused-else-fits_rule.ensures ∙ sym (faulty-here _ _ _ _ at.i s.loop-i-test.true (here (goal.at.returns-else-fits_rule c).After-fits_rule ∙ c.if-fits_rule.false)) ∙ at.invariant.1
+
+pub returns : goal.returns
+returns c = sym (faulty-none _ _ _ _ _ c.loop-i.invariant.0 c.loop-i-test.false) ∙ c.loop-i.invariant.1
