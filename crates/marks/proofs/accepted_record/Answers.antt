@@ -8,7 +8,7 @@ returns c =
     let a = s.args in
     let lent = c in
     accepted-is
-    (record { handed = a.handed-1.now; depth = a.depth; taken = a.taken })
+    (record { handed = a.handed.now; depth = a.depth; taken = a.taken })
     a.depth
     a.decision
     a.mark

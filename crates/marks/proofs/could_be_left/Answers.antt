@@ -1,6 +1,5 @@
 -- `marks::could_be_left` meets its contract. Assumes nothing.
 use Rattle.std.proofs.Common.{ℕ, sym, ap, ◌∙◌, arith}
-use borrow.Author.Tests.{not-false}
 use Rattle.marks.specs.Inner.{hands_well}
 use Rattle.marks.proofs.Laws.{counts_sure, open_few, left_not, left_is}
 use Rattle.marks.proofs.could_be_left.Goals as goal
@@ -9,13 +8,13 @@ pub returns-then-not-counts_well : goal.returns-then-not-counts_well
 returns-then-not-counts_well c = sym (left_not _ _ c.counts_well.ensures c.if-not-counts_well.true)
 
 pub open_of-requires : goal.open_of-requires
-open_of-requires c = let t = c.counts_well in counts_sure _ _ (sym t.ensures ∙ not-false t.result c.if-not-counts_well.false)
+open_of-requires c = let t = c.counts_well in counts_sure _ _ (sym t.ensures ∙ c.if-not-counts_well.false)
 
 pub hands_well-requires : goal.hands_well-requires
 hands_well-requires c =
     let s = c in
     let t = c.counts_well in
-    let few = open_few s.args.depth s.args.taken (counts_sure _ _ (sym t.ensures ∙ not-false t.result c.if-not-counts_well.false)) in
+    let few = open_few s.args.depth s.args.taken (counts_sure _ _ (sym t.ensures ∙ c.if-not-counts_well.false)) in
     omega (arith, c.open_of.ensures, few, s.requires)
 
 pub returns : goal.returns

@@ -11,7 +11,7 @@ abbrev pub decreases-loop-i : goal.decreases-loop-i
 decreases-loop-i l = l.opened - l.i
 
 abbrev pub invariant-loop-i-2 : goal.invariant-loop-i-2
-invariant-loop-i-2 l = (l.opened ≤ l.i) × (l.i ≤ length l.handed) × (hands_well l.opened 2 l.handed ≡ gathers l.opened l.initial.wrong l.handed l.i l.wrong)
+invariant-loop-i-2 l = (l.opened ≤ l.i) × (l.i ≤ length l.handed) × (hands_well l.opened 2 l.handed ≡ gathers l.opened l.above l.handed l.i l.wrong)
 
 abbrev pub decreases-loop-i-2 : goal.decreases-loop-i-2
 decreases-loop-i-2 l = length l.handed - l.i

@@ -1,6 +1,5 @@
 -- `marks::step_record` meets its contract. Assumes nothing.
 use Rattle.std.proofs.Common.{sym, ◌∙◌, rules}
-use borrow.Author.Tests.{not-false}
 use Rattle.marks.proofs.Laws.{left_sure}
 use Rattle.marks.proofs.Takes.{step-refused, step-taken, refused-is}
 use Rattle.marks.proofs.step_record.Goals as goal
@@ -11,7 +10,7 @@ returns-then-not-could_be_left c = refused-is _ 17 0 c.refused_record.ensures �
 pub take_record-requires : goal.take_record-requires
 take_record-requires c =
     let t = c.could_be_left in
-    (search rules, left_sure _ (sym t.ensures ∙ not-false t.result c.if-not-could_be_left.false))
+    (search rules, left_sure _ (sym t.ensures ∙ c.if-not-could_be_left.false))
 
 pub returns : goal.returns
 returns c = c.take_record.ensures ∙ sym (step-taken _ _ _ c.could_be_left.ensures c.if-not-could_be_left.false)

@@ -8,7 +8,7 @@ use Rattle.marks.proofs.take_record.Goals.{After-fault-number, Start}
 
 -- the walk that holds what is lent
 walk : Start → Walk
-walk s = record { handed = s.args.handed-1.now; depth = s.args.last; taken = s.args.taken }
+walk s = record { handed = s.args.handed.now; depth = s.args.last; taken = s.args.taken }
 
 pub returns-then-element-ne-WIDTH : goal.returns-then-element-ne-WIDTH
 returns-then-element-ne-WIDTH c = refused-is _ 2 0 c.refused_record.ensures ∙ sym (take_short _ _ c.if-element-ne-WIDTH.true)
@@ -18,11 +18,11 @@ returns-then-taken-ge-MOST c = refused-is _ 3 0 c.refused_record-then-taken-ge-M
 
 -- the number is that of the record's fault
 faulted : (c : After-fault-number) → let s = c in
-    c.fault-number.result ≡ fault_next (record { handed = s.args.handed-1.now; depth = s.args.last; taken = s.args.taken }) s.args.element.now
+    c.fault-number.result ≡ fault_next (record { handed = s.args.handed.now; depth = s.args.last; taken = s.args.taken }) s.args.element.now
 faulted c =
     let h = c in
     let a = h.args in
-    fault-next (record { handed = a.handed-1.now; depth = a.last; taken = a.taken }) a.element.now h.next_low-low.ensures h.next_high-high.ensures c.depth-depth.ensures c.fault-number.ensures
+    fault-next (record { handed = a.handed.now; depth = a.last; taken = a.taken }) a.element.now h.next_low-low.ensures h.next_high-high.ensures c.depth-depth.ensures c.fault-number.ensures
 
 pub returns-then-number-ne0 : goal.returns-then-number-ne0
 returns-then-number-ne0 c =
