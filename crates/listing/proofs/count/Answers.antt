@@ -1,0 +1,26 @@
+-- `listing::count` meets its contract. The invariant: the sum so far, with what the elements from i on set, is what all set, and is at most two for each element passed. Assumes nothing.
+use Prim.Native.Nat.{◌-◌}
+use native.Mathlib.Omega.{arith}
+use Rattle.dossier.specs.Bytes.{records, byte_of}
+use Rattle.listing.proofs.Costs.{cost-most, costs-start, costs-first, costs-none}
+use Rattle.listing.proofs.count.Goals as goal
+
+pub loop-i-init : goal.loop-i-init
+loop-i-init c = (omega arith, omega arith, omega (arith, costs-start c.args.d.now))
+
+pub overflow_add-sum : goal.overflow_add-sum
+overflow_add-sum c = omega (arith, c.cost-sum.ensures, cost-most (byte_of c.args.d.now c.loop-i.i 2))
+
+pub loop-i-preserved : goal.loop-i-preserved
+loop-i-preserved c =
+    let d = c.args.d.now in
+    let i = c.loop-i.i in
+    let step = costs-first d i (records d) c.loop-i-test.true in
+    let most = cost-most (byte_of d i 2) in
+    (omega arith, omega (arith, c.cost-sum.ensures), omega (arith, c.cost-sum.ensures))
+
+pub returns : goal.returns
+returns c =
+    let d = c.args.d.now in
+    let none = costs-none d c.loop-i.i (records d) c.loop-i-test.false in
+    omega arith

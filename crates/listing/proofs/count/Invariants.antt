@@ -1,0 +1,13 @@
+-- `listing::count` meets its contract. The invariant: the sum so far, with what the elements from i on set, is what all set, and is at most two for each element passed. Assumes nothing.
+use mathlib.Core.Path.{◌≡◌}
+use Prim.Native.Nat.{◌+◌, ◌*◌, ◌-◌, ◌≤◌}
+use lib.ListN.{length}
+use Rattle.listing.specs.Area.{listed_of}
+use Rattle.listing.proofs.Costs.{costs_from}
+use Rattle.listing.proofs.count.Given as goal
+
+abbrev pub invariant-loop-i : goal.invariant-loop-i
+invariant-loop-i l = (l.i ≤ l.n) × (l.sum ≤ 2 * l.i) × (l.sum + costs_from l.d l.i (l.n - l.i) ≡ length (listed_of l.d))
+
+abbrev pub decreases-loop-i : goal.decreases-loop-i
+decreases-loop-i l = l.n - l.i

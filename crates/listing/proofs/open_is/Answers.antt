@@ -1,0 +1,66 @@
+-- `listing::open_is` meets its contract. The invariant: the rules of the open elements down to depth k are met. Assumes nothing.
+use mathlib.Core.Path.{sym, ◌∙◌}
+use Prim.Native.Nat.{◌+◌, ◌-◌, ◌<◌}
+use lib.ListN.{get_or}
+use borrow.Author.Tests.{not-true, not-false}
+use Rattle.dossier.specs.Bytes.{records, element_at}
+use Rattle.rules.specs.Rules.{rules_of}
+use Rattle.rules.proofs.Records.{rules-length}
+use Rattle.listing.specs.Inner.{planned}
+use Rattle.listing.proofs.Counts.{own-length}
+use Rattle.listing.proofs.Comparing.{says_yes, says_no, Gone, gone_none, gone-more, gone-off, gone-end}
+use borrow.Author.Rules.{rules}
+use native.Mathlib.Omega.{arith}
+use Rattle.listing.proofs.open_is.Goals as goal
+use Rattle.listing.proofs.open_is.Goals.{After-cost-at, After-q-1}
+
+pub loop-k-init : goal.loop-k-init
+loop-k-init c =
+    let s = c in
+    gone_none _ _ _ _ _ _ _ (omega (arith, rules-length s.args.rules.now, s.requires.room.1))
+
+pub bounds-stack-k : goal.bounds-stack-k
+bounds-stack-k c = omega (arith, c.requires.stacked.shallow, c.loop-k.invariant.down.low)
+
+-- the element that closes is an element
+inside : (c : After-q-1) → get_or c.args.stack.now (c.loop-k.k - 1) 0 < records c.args.d.now
+inside c =
+    let k = c.loop-k in
+    c.requires.stacked.inside (k.k - 1) (omega (arith, k.invariant.down.low, c.loop-k-test.true))
+
+pub bounds-plan-q : goal.bounds-plan-q
+bounds-plan-q c = omega (arith, inside (goal.at.bounds-plan-q c).After-q-1, c.requires.room)
+
+pub own_is-requires : goal.own_is-requires
+own_is-requires c =
+    let s = c in record {
+      sound = s.requires.sound;
+      there = inside (goal.at.own_is-requires c).After-q-1;
+      told = s.requires.told;
+    }
+
+pub returns-then-not-own_is : goal.returns-then-not-own_is
+returns-then-not-own_is c = gone-off _ _ _ _ _ _ _ _ _ c.loop-k.invariant c.loop-k-test.true (says_no c.own_is.result c.if-not-own_is.true c.own_is.ensures)
+
+-- its rules are met too
+met : (c : After-cost-at) → Gone c.args.d.now (planned c.args.plan.now) c.args.stack.now c.args.top c.args.depth c.args.from (rules_of c.args.rules.now) (c.loop-k.at + c.cost-at.result) (c.loop-k.k - 1)
+met c =
+    let s = c in
+    let t = c.loop-k in
+    let q = get_or s.args.stack.now (t.k - 1) 0 in
+    let e = c.cost-at.ensures ∙ sym (own-length q (element_at s.args.d.now q) (planned s.args.plan.now q)) in
+    rw e (gone-more _ _ _ _ _ _ _ _ _ t.invariant c.loop-k-test.true (says_yes c.own_is.result c.if-not-own_is.false c.own_is.ensures))
+
+pub overflow_add-at : goal.overflow_add-at
+overflow_add-at c =
+    let s = c in
+    omega (arith, (met (goal.at.overflow_add-at c).After-cost-at).inside, rules-length s.args.rules.now, s.requires.told.few)
+
+pub loop-k-preserved : goal.loop-k-preserved
+loop-k-preserved c = met (goal.at.loop-k-preserved c).After-cost-at
+
+pub returns : goal.returns
+returns c = gone-end _ _ _ _ _ _ _ _ _ c.loop-k.invariant c.loop-k-test.false
+
+pub overflow_cast-q : goal.overflow_cast-q
+overflow_cast-q c = omega (arith, inside (goal.at.overflow_cast-q c).After-q-1)

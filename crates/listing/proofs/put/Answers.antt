@@ -1,0 +1,18 @@
+-- `listing::put` meets its contract. Assumes nothing.
+use mathlib.Core.Path.{sym, ap, ◌∙◌}
+use Prim.Native.Nat.{◌*◌}
+use lib.Seq.{sets}
+use Rattle.dossier.specs.Limits.{width}
+use Rattle.listing.proofs.Own.{rule-bytes}
+use Rattle.dossier.proofs.Stores.{area-fits}
+use native.Mathlib.Omega.{arith}
+use Rattle.listing.proofs.put.Goals as goal
+
+pub returns : goal.returns
+returns c =
+    let s = c in
+    let a = s.args in
+    let p = s.requires in
+    c.store.ensures ∙ area-fits a.out.now (a.at * width) _ (omega (arith, p.room))
+    ∙ ap (sets a.out.now (a.at * width))
+    (sym (rule-bytes a.d.now a.q a.effect a.reach (λ k. omega (arith, c.type_inv.d k)) p.numbers.0 p.numbers.1))
