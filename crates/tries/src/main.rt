@@ -17,14 +17,14 @@ const SIZE: usize = 7;
 const STRIDE: u64 = 61;
 
 // The least count of a dossier, and the first right marking that has it.
-#[derive(Drop)]
+#[derive(Clone, Copy)]
 struct Best {
     count: usize,
     marks: [u8; 8],
 }
 
 // What was tried of one size.
-#[derive(Drop)]
+#[derive(Clone, Copy)]
 struct Tally {
     dossiers: u64,
     counts: u64,

@@ -1,7 +1,7 @@
 // All markings, all choices of decisions and all trees, each in its turn. The last element changes fastest, so that markings come in their order.
 
 // A row of digits or depths, or that the last was given.
-#[derive(Drop)]
+#[derive(Clone, Copy)]
 pub struct Next {
     pub row: [u8; 8],
     pub done: bool,

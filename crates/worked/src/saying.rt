@@ -4,7 +4,7 @@ use least::{Judgement, Report, Verdict};
 use libc::STDOUT_FILENO;
 
 // The combining of a call to the folder or the judge: not said, and then it is first applicable, or said by its number.
-#[derive(Drop)]
+#[derive(Clone, Copy)]
 pub enum Combining {
     Unsaid,
     Said(usize),

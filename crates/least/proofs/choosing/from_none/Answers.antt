@@ -1,0 +1,27 @@
+-- `choosing::from_none` meets its contract: in each case the mark is as good as the other three. Assumes nothing.
+use mathlib.Core.Path.{◌≡◌, ap, ◌∙◌}
+use Prim.Native.Nat.{◌+◌}
+use native.Mathlib.Omega.{arith}
+use Rattle.dossier.specs.Elements.{m-, m+, m±}
+use Rattle.least.specs.Inner.{by_mark}
+use Rattle.least.specs.declared.choosing.Priced.{Priced}
+use Rattle.least.proofs.Prices.{priced_is}
+use Rattle.least.proofs.choosing.from_none.Goals as goal
+
+pub returns-then-none-eq0 : goal.returns-then-none-eq0
+returns-then-none-eq0 c =
+    let start = c in
+    let one : 1 ≡ 1 + start.args.none = omega arith in
+    c.with_mark.ensures ∙ ap {B = Priced} (λ p. record { price = p; mark = 1 }) one ∙ priced_is (by_mark _ _ _ _) m- (omega arith)
+
+pub returns-then-none-other : goal.returns-then-none-other
+returns-then-none-other c = c.with_mark-then-none-other.ensures ∙ priced_is (by_mark _ _ _ _) m- (omega arith)
+
+pub returns-then-none-same : goal.returns-then-none-same
+returns-then-none-same c = c.with_mark-then-none-same.ensures ∙ priced_is (by_mark _ _ _ _) m± (omega arith)
+
+pub returns-then-same-other : goal.returns-then-same-other
+returns-then-same-other c = c.with_mark-then-same-other.ensures ∙ priced_is (by_mark _ _ _ _) m+ (omega arith)
+
+pub returns : goal.returns
+returns c = c.with_mark-2.ensures ∙ priced_is (by_mark _ _ _ _) m± (omega arith)

@@ -1,0 +1,16 @@
+-- `least::fold_with` meets its contract: the root's branch is the whole dossier. Assumes nothing.
+use mathlib.Core.Path.{ap}
+use Rattle.least.specs.declared.Branch.{Branch}
+use Rattle.least.proofs.Whole.{whole_plan, written-folds}
+use Rattle.least.proofs.fold_with.Goals as goal
+
+pub place-requires : goal.place-requires
+place-requires c =
+    let s = c in
+    (s.requires.sound, whole_plan _ _ s.requires.sound _ _ s.requires.room c.best-root.ensures.planned)
+
+pub returns : goal.returns
+returns c =
+    let s = c in
+    let none = ap (λ (b : Branch). b.sums.none) c.best-root.ensures.summed in
+    rw none (written-folds _ _ s.requires.sound _ c.place.ensures)
