@@ -173,7 +173,7 @@ pub extern "C" fn nv_walk_fresh(walk: &mut Walk)
 // Gives the walk one record, which it answers, or refuses and stays as it was.
 #[unsafe(no_mangle)]
 pub extern "C" fn nv_walk_step(walk: &mut Walk, element: &[u8]) -> u64
-    ensures { Packs packed_answer (λ answer. Steps walk.entry.now element.now (record { walk = walk.exit.now; answer = answer })) result }
+    ensures { Packs packed_answer (λ answer. Steps walk.old element.now (record { walk = walk.new; answer = answer })) result }
 {
     pack_answer(marks::step_in_place(walk, element))
 }

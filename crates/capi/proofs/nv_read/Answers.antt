@@ -1,0 +1,7 @@
+-- `capi::nv_read` meets its contract. Assumes nothing.
+use mathlib.Core.Path.{ap, ◌∙◌}
+use Rattle.capi.specs.Packed.{packed_reply}
+use Rattle.capi.proofs.nv_read.Goals as goal
+
+pub returns : goal.returns
+returns c = c.pack_reply.ensures ∙ ap packed_reply c.read.ensures
