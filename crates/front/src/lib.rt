@@ -11,7 +11,11 @@ ghost use Rattle.front.specs.Printing.{rules_text};
 ghost use Rattle.front.specs.Inner.{Areas, Short, Answered};
 
 use dossier::{MOST_ELEMENTS, Reply, WIDTH};
-use libc::{STDIN_FILENO, STDOUT_FILENO};
+
+// The numbers of standard input and output.
+const STDIN: i32 = 0;
+
+const STDOUT: i32 = 1;
 
 // The most records that are kept; their bytes; and what is enough for all that can stand for a longer input.
 const MOST: u16 = MOST_ELEMENTS as u16;
@@ -49,12 +53,12 @@ fn answer(d: &mut [u8], rules: &mut [u8], out: &mut [u8]) -> usize
 
 // Reads, answers and prints, with areas that are large enough.
 fn run(kept: &mut [u8], rules: &mut [u8], out: &mut [u8])
-    requires width_in_bounds { most_elements * width + 2 * width ≤ length kept.old }
+    requires room { most_elements * width + 2 * width ≤ length kept.old }
     requires areas { Areas rules.old out.old }
 {
-    let size = programs::gather(STDIN_FILENO, MOST, kept, out);
+    let size = programs::gather(STDIN, MOST, kept, out);
     let to = answer(&mut kept[..size], rules, out);
-    io::write_all(STDOUT_FILENO, &out[..to]);
+    io::write_all(STDOUT, &out[..to]);
 }
 
 // The whole program: reads standard input and prints.

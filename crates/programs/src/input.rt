@@ -27,10 +27,9 @@ pub fn counted_on(most: u16, total: usize, more: usize) -> usize
     total + more
 }
 
-// One read of what lies past the kept bytes: how many bytes came, 0 at the end or where the read fails.
+// Reads on into the room for what lies past the kept bytes: how many bytes came, 0 at the end or where the read fails.
 fn past(fd: i32, scratch: &mut [u8]) -> usize {
-    let got = libc::read(fd, scratch);
-    io::count(got, scratch)
+    io::read_full(fd, scratch)
 }
 
 // Reads on to the end of the input, of which the most records are kept already: what stands for the whole. The turns are

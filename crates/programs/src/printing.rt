@@ -13,8 +13,8 @@ const MOST_REFUSAL: usize = 37;
 
 // Puts a word.
 pub fn put_word(out: &mut [u8], at: usize, word: &[u8]) -> usize
-    ensures value { result ≡ place_after out.old at word.now }
-    ensures out_after { out.new ≡ area_after out.old at word.now }
+    ensures place { result ≡ place_after out.old at word.now }
+    ensures written { out.new ≡ area_after out.old at word.now }
 {
     if out.len() < at {
         return at;
@@ -32,8 +32,8 @@ pub fn put_word(out: &mut [u8], at: usize, word: &[u8]) -> usize
 
 // Puts a number in decimal.
 pub fn put_number(out: &mut [u8], at: usize, n: usize) -> usize
-    ensures value { result ≡ place_after out.old at (decimal n) }
-    ensures out_after { out.new ≡ area_after out.old at (decimal n) }
+    ensures place { result ≡ place_after out.old at (decimal n) }
+    ensures written { out.new ≡ area_after out.old at (decimal n) }
 {
     let mut digits = [0u8; 20];
     let k = io::decimal(n as u64, &mut digits);
@@ -42,8 +42,8 @@ pub fn put_number(out: &mut [u8], at: usize, n: usize) -> usize
 
 // Puts the word of an effect.
 pub fn put_effect(out: &mut [u8], at: usize, effect: u8) -> usize
-    ensures value { result ≡ place_after out.old at (effect_word (effect_of effect)) }
-    ensures out_after { out.new ≡ area_after out.old at (effect_word (effect_of effect)) }
+    ensures place { result ≡ place_after out.old at (effect_word (effect_of effect)) }
+    ensures written { out.new ≡ area_after out.old at (effect_word (effect_of effect)) }
 {
     if effect == 0 {
         return put_word(out, at, b" deny");
@@ -74,9 +74,9 @@ fn write_refusal(line: &mut [u8], number: u8, list: u8, position: usize) -> usiz
 
 // Puts the line of a refusal, which is never longer than the longest.
 pub fn put_refusal(out: &mut [u8], at: usize, refusal: Refusal) -> usize
-    ensures value { result ≡ place_after out.old at (refusal_text refusal) }
-    ensures out_after { out.new ≡ area_after out.old at (refusal_text refusal) }
-    ensures refusal_len_bound { length (refusal_text refusal) ≤ most_refusal }
+    ensures place { result ≡ place_after out.old at (refusal_text refusal) }
+    ensures written { out.new ≡ area_after out.old at (refusal_text refusal) }
+    ensures within { length (refusal_text refusal) ≤ most_refusal }
 {
     let mut line = [0u8; MOST_REFUSAL];
     let n = write_refusal(&mut line, refusal.number, refusal.list, refusal.position);

@@ -1,0 +1,11 @@
+-- `input::rest` meets its contract. Assumes nothing.
+use mathlib.Core.Path.{◌≡◌}
+use lib.ListN.{length}
+use Rattle.programs.specs.Standing.{CountedOn}
+use Rattle.programs.proofs.input.rest.Given as goal
+
+abbrev pub invariant-loop-turns : goal.invariant-loop-turns
+invariant-loop-turns l = (length l.scratch ≡ length l.initial.scratch) × CountedOn l.most l.total
+
+abbrev pub decreases-loop-turns : goal.decreases-loop-turns
+decreases-loop-turns l = l.turns
