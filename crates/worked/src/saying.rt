@@ -1,7 +1,6 @@
 // What is printed, in words.
 use dossier::{Answer, Decision, Refusal, Reply};
 use least::{Judgement, Report, Verdict};
-use libc::STDOUT_FILENO;
 
 // The combining of a call to the folder or the judge: not said, and then it is first applicable, or said by its number.
 #[derive(Clone, Copy)]
@@ -10,14 +9,17 @@ pub enum Combining {
     Said(usize),
 }
 
+// The number of standard output.
+const STDOUT: i32 = 1;
+
 // Prints words as they stand.
 pub(crate) fn say(words: &[u8]) {
-    io::write_all(STDOUT_FILENO, words);
+    io::write_all(STDOUT, words);
 }
 
 // Prints a number.
 pub(crate) fn say_number(n: usize) {
-    io::print_decimal(STDOUT_FILENO, n as u64);
+    io::print_decimal(STDOUT, n as u64);
 }
 
 // A refusal and its three numbers.

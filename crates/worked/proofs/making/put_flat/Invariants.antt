@@ -1,0 +1,11 @@
+-- `making::put_flat` is safe and ends: the measure is `length d₀ - i`. Assumes nothing.
+use Prim.Native.Nat.{◌-◌}
+use mathlib.Core.Path.{◌≡◌}
+use lib.ListN.{length}
+use Rattle.worked.proofs.making.put_flat.Given as goal
+
+abbrev pub invariant-loop-i : goal.invariant-loop-i
+invariant-loop-i l = length l.d ≡ length l.initial.d
+
+abbrev pub decreases-loop-i : goal.decreases-loop-i
+decreases-loop-i l = length l.initial.d - l.i

@@ -1,0 +1,11 @@
+-- `making::put_marks` is safe and ends: the measure is `length line - at`. Assumes nothing.
+use Prim.Native.Nat.{◌-◌}
+use mathlib.Core.Path.{◌≡◌}
+use lib.ListN.{length}
+use Rattle.worked.proofs.making.put_marks.Given as goal
+
+abbrev pub invariant-loop-at : goal.invariant-loop-at
+invariant-loop-at l = length l.d ≡ length l.initial.d
+
+abbrev pub decreases-loop-at : goal.decreases-loop-at
+decreases-loop-at l = length l.line - l.at

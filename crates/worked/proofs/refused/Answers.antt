@@ -1,0 +1,8 @@
+-- `refused` is safe and ends. Assumes nothing.
+use lib.Seq.{length-take-le}
+use mathlib.Core.Path.{sym}
+use borrow.Author.Rules.{rules}
+use Rattle.worked.proofs.refused.Goals as goal
+
+pub slice_bounds-say_refused-end : goal.slice_bounds-say_refused-end
+slice_bounds-say_refused-end c = sym (length-take-le _ _ (search rules))

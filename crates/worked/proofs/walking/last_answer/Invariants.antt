@@ -1,0 +1,7 @@
+-- `last_answer` is safe and ends: the measure is `length d - i`. Assumes nothing.
+use Prim.Native.Nat.{◌-◌}
+use lib.ListN.{length}
+use Rattle.worked.proofs.walking.last_answer.Given as goal
+
+abbrev pub decreases-loop-i : goal.decreases-loop-i
+decreases-loop-i l = length l.d - l.i
