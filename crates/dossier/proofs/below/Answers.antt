@@ -1,5 +1,5 @@
 -- `dossier::below` meets its contract. The invariant: what is left to read from record i on gives the answer. Assumes nothing.
-use Rattle.std.proofs.Common.{◌-◌, sym, ◌∙◌, arith}
+use Rattle.std.proofs.Common.{sym, ◌∙◌, arith}
 use Rattle.dossier.proofs.Covers.{covers_out, covers-before, rest-first, rest-next, rest_stop, rest-last}
 use Rattle.dossier.proofs.below.Goals as goal
 

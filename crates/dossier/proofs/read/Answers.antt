@@ -1,5 +1,5 @@
 -- `dossier::read` meets its contract. The invariant: what is left to read from record i decides the reply. Assumes nothing.
-use Rattle.std.proofs.Common.{◌≡◌, ◌-◌, sym, refl, ◌∙◌, arith, le-ltb, lt-ltb, eq-eqb, ne_eqb}
+use Rattle.std.proofs.Common.{◌≡◌, sym, refl, ◌∙◌, arith, le-ltb, lt-ltb, eq-eqb, ne_eqb}
 use native.Mathlib.Nat.{sub-zero}
 use Rattle.dossier.proofs.Laws.{step-on, step_out, ends, fault-read, low-next, high_read}
 use Rattle.dossier.proofs.Sounds.{free}

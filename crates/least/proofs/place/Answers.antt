@@ -1,5 +1,4 @@
 -- `least::place` meets its contract. The invariant: the array holds what the open depths hand down, and the marks ahead, written to the dossier so far, are the folder's marks written to the dossier. Assumes nothing.
-use Prim.Native.Nat.{◌-◌}
 use Rattle.least.proofs.Placing.{placing_none, placing_fits, placing_more, placing_end}
 use Rattle.least.proofs.place.Goals as goal
 

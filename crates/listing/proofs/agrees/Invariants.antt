@@ -5,7 +5,6 @@ use Rattle.dossier.specs.Limits.{width}
 use Rattle.rules.specs.Rules.{rules_of}
 use Rattle.listing.specs.Inner.{planned}
 use Rattle.listing.proofs.Comparing.{Meeting}
-use borrow.Author.Rules.{rules}
 use Rattle.listing.proofs.agrees.Given as goal
 
 abbrev pub invariant-loop-p : goal.invariant-loop-p

@@ -8,7 +8,6 @@ use Rattle.listing.specs.Inner.{Within}
 use Rattle.listing.proofs.Gathering.{gathered-length, gathered-low}
 use Rattle.listing.proofs.Comparing.{says_yes, says_no}
 use Rattle.listing.proofs.Replies.{told-marked, told_none}
-use borrow.Author.Rules.{rules}
 use native.Mathlib.Omega.{arith}
 use Rattle.listing.proofs.back_with.Goals as goal
 use Rattle.listing.proofs.back_with.Goals.{After-gather, Start}

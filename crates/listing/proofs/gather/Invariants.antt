@@ -4,7 +4,6 @@ use Prim.Native.Nat.{◌-◌, ◌/◌}
 use lib.ListN.{length}
 use Rattle.dossier.specs.Limits.{width}
 use Rattle.listing.specs.Inner.{gathered}
-use borrow.Author.Rules.{rules}
 use Rattle.listing.proofs.gather.Given as goal
 
 abbrev pub invariant-loop-i : goal.invariant-loop-i

@@ -2,14 +2,12 @@
 use mathlib.Core.Path.{sym, ◌∙◌}
 use Prim.Native.Nat.{◌+◌, ◌-◌, ◌<◌}
 use lib.ListN.{get_or}
-use borrow.Author.Tests.{not-true, not-false}
 use Rattle.dossier.specs.Bytes.{records, element_at}
 use Rattle.rules.specs.Rules.{rules_of}
 use Rattle.rules.proofs.Records.{rules-length}
 use Rattle.listing.specs.Inner.{planned}
 use Rattle.listing.proofs.Counts.{own-length}
 use Rattle.listing.proofs.Comparing.{says_yes, says_no, Gone, gone_none, gone-more, gone-off, gone-end}
-use borrow.Author.Rules.{rules}
 use native.Mathlib.Omega.{arith}
 use Rattle.listing.proofs.open_is.Goals as goal
 use Rattle.listing.proofs.open_is.Goals.{After-cost-at, After-q-1}

@@ -1,9 +1,7 @@
 -- `listing::open_is` meets its contract. The invariant: the rules of the open elements down to depth k are met. Assumes nothing.
-use Prim.Native.Nat.{◌-◌}
 use Rattle.rules.specs.Rules.{rules_of}
 use Rattle.listing.specs.Inner.{planned}
 use Rattle.listing.proofs.Comparing.{Gone}
-use borrow.Author.Rules.{rules}
 use Rattle.listing.proofs.open_is.Given as goal
 
 abbrev pub invariant-loop-k : goal.invariant-loop-k

@@ -8,7 +8,6 @@ use Rattle.listing.specs.Inner.{Starts, rule_on}
 use Rattle.listing.proofs.Own.{own-none, own-one, own-both}
 use Rattle.listing.proofs.Starts.{starts_none, starts_more, starts_front, starts_back}
 use Rattle.listing.proofs.Comparing.{says_yes, says_no, says_same, says_starts}
-use borrow.Author.Rules.{rules}
 use native.Mathlib.Omega.{arith}
 use Rattle.listing.proofs.own_is.Goals as goal
 

@@ -1,6 +1,6 @@
 -- `listing::put_all` meets its contract. The invariant: before element p the rules listed so far are written, and the stack holds the open elements. Assumes nothing.
 use mathlib.Core.Path.{◌≡◌, refl, ap, ◌∙◌}
-use Prim.Native.Nat.{ℕ, ◌-◌, ◌≤◌}
+use Prim.Native.Nat.{ℕ, ◌≤◌}
 use lib.ListN.{length}
 use lib.Seq.{sets, length-sets}
 use Rattle.dossier.specs.Limits.{deepest}

@@ -1,5 +1,4 @@
 -- `listing::put_open` meets its contract. The invariant: the rules of the open elements down to depth k are written. Assumes nothing.
-use Prim.Native.Nat.{◌-◌}
 use Rattle.listing.specs.Inner.{mark_at}
 use Rattle.listing.proofs.Writing.{Closed}
 use Rattle.listing.proofs.put_open.Given as goal

@@ -3,7 +3,6 @@ use mathlib.Core.Path.{sym, ◌∙◌}
 use Rattle.dossier.proofs.Sounds.{counted-sound}
 use Rattle.rules.proofs.ListSounds.{count-sound}
 use Rattle.listing.proofs.Replies.{back-refused, back-rules-refused, back-told}
-use borrow.Author.Rules.{rules}
 use Rattle.listing.proofs.read_back.Goals as goal
 
 pub returns-in-Refused : goal.returns-in-Refused

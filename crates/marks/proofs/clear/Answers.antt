@@ -1,5 +1,5 @@
 -- `marks::clear` meets its contract. The invariant: clearing what is held now from i on clears all. Assumes nothing.
-use Rattle.std.proofs.Common.{◌-◌, sym, refl, ◌∙◌, rules}
+use Rattle.std.proofs.Common.{sym, refl, ◌∙◌, rules}
 use Rattle.marks.proofs.Laws.{clear-turn, clear_end}
 use Rattle.marks.proofs.clear.Goals as goal
 

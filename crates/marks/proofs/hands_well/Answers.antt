@@ -1,5 +1,5 @@
 -- `marks::hands_well` meets its contract. The invariant of both loops: all depths pass the test exactly where nothing wrong was gathered and those from i on pass it. Assumes nothing.
-use Rattle.std.proofs.Common.{◌-◌, sym, ◌∙◌, arith}
+use Rattle.std.proofs.Common.{sym, ◌∙◌, arith}
 use Rattle.marks.proofs.Laws.{gathers-first, gathers_open, gathers_closed, gathers-all}
 use Rattle.marks.proofs.hands_well.Goals as goal
 

@@ -1,9 +1,7 @@
 -- `rules::read_rules` meets its contract. The invariant: what is left to read from rule i on decides the reply. Assumes nothing.
-use Prim.Native.Nat.{◌-◌}
 use mathlib.Core.Path.{◌≡◌, sym, ◌∙◌}
 use native.Mathlib.Nat.{sub-zero}
 use native.Mathlib.Omega.{arith}
-use borrow.Author.Rules.{rules}
 use borrow.Author.Tests.{le-ltb, lt-ltb, eq-eqb, ne_eqb}
 use Rattle.rules.specs.ReadingRules.{fits_at, read_rules_of}
 use Rattle.rules.proofs.FirstFaulty.{faulty-on, faulty-here, faulty-none, fits-here}

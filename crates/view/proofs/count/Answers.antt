@@ -1,6 +1,5 @@
 -- `view::count` meets its contract. The invariant: what is counted and what is left to show make up the whole. Assumes nothing.
 use mathlib.Core.Path.{refl, sym, ap, ◌∙◌}
-use Prim.Native.Nat.{◌-◌}
 use native.Mathlib.Nat.{zero-add}
 use native.Mathlib.Omega.{arith}
 use lib.ListN.{length}

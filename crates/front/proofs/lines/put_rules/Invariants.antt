@@ -3,7 +3,6 @@ use Prim.Native.Nat.{◌-◌, ◌≤◌}
 use Rattle.dossier.specs.Bytes.{records}
 use Rattle.programs.proofs.Putting.{Left}
 use Rattle.front.proofs.RuleLines.{lines_from}
-use borrow.Author.Rules.{rules}
 use Rattle.front.proofs.lines.put_rules.Given as goal
 
 abbrev pub invariant-loop-i : goal.invariant-loop-i
