@@ -1,7 +1,5 @@
 -- The promises of the C functions determine the number and every lent area; where a promise is an equation, there is nothing to show. Assumes nothing.
-use mathlib.Core.Path.{◌≡◌, sym, ap, ◌∙◌}
-use Prim.Native.Nat.{ℕ}
-use mathlib.Core.List.{List}
+use Rattle.std.proofs.Common.{◌≡◌, ℕ, List, sym, ap, ◌∙◌}
 use Rattle.marks.specs.Stepping.{Steps}
 use Rattle.marks.specs.declared.Walk.{Walk}
 use Rattle.marks.specs.declared.Stepped.{Stepped}
@@ -18,9 +16,9 @@ use Rattle.capi.specs.Packed.{packed_reply, packed_answer, packed_judgement, Pac
 number-one : {A : Type 0} (pack : A → ℕ) {P Q : A → Type 0} {n m : ℕ} (p : Packs pack P n) (q : Packs pack Q m) → p.reply ≡ q.reply → n ≡ m
 number-one pack p q e = p.packed ∙ ap pack e ∙ sym q.packed
 
-pub read-back-one : (d rs : List ℕ) (n m : ℕ) (new old : List ℕ) → Packs packed_reply (λ reply. Back d rs reply new) n
+pub read_back_one : (d rs : List ℕ) (n m : ℕ) (new old : List ℕ) → Packs packed_reply (λ reply. Back d rs reply new) n
     → Packs packed_reply (λ reply. Back d rs reply old) m → (n ≡ m) × (new ≡ old)
-read-back-one d rs n m new old p q =
+read_back_one d rs n m new old p q =
     let o = back_one d rs p.reply q.reply new old p.allowed q.allowed in
     (number-one packed_reply p q o.0, o.1)
 
@@ -50,9 +48,9 @@ pub judge_for_one : (c : ℕ) (d : List ℕ) (n m : ℕ) → Packs packed_judgem
     → Packs packed_judgement (λ judgement. JudgedFor c d judgement) m → n ≡ m
 judge_for_one c d n m p q = number-one packed_judgement p q (judged_for_unique c d p.reply q.reply p.allowed q.allowed)
 
-pub walk-step-one : (w : Walk) (r : List ℕ) (n m : ℕ) (new old : Walk)
+pub walk_step_one : (w : Walk) (r : List ℕ) (n m : ℕ) (new old : Walk)
     → Packs packed_answer (λ answer. Steps w r (record { walk = new; answer = answer })) n
     → Packs packed_answer (λ answer. Steps w r (record { walk = old; answer = answer })) m → (n ≡ m) × (new ≡ old)
-walk-step-one w r n m new old p q =
+walk_step_one w r n m new old p q =
     let o = steps_one w r _ _ p.allowed q.allowed in
     (number-one packed_answer p q (ap (λ (s : Stepped). s.answer) o), ap (λ (s : Stepped). s.walk) o)

@@ -1,12 +1,5 @@
 -- Every reply that a promise allows fits its number, so that packing loses nothing. Assumes nothing.
-use mathlib.Core.Path.{◌≡◌, refl, subst}
-use mathlib.Core.Bool.{Bool, true, false, cond}
-use Prim.Native.Nat.{ℕ, ◌*◌, ◌≤◌, ◌<◌}
-use native.Mathlib.Omega.{arith}
-use mathlib.Core.List.{List}
-use lib.ListN.{length}
-use lib.Dec.{ltb, leb, eqb}
-use borrow.Author.Tests.{leb-false}
+use Rattle.std.proofs.Common.{◌≡◌, ℕ, ◌*◌, ◌<◌, ◌≤◌, Bool, true, false, cond, eqb, ltb, leb, List, length, refl, subst, arith, leb-false}
 use Rattle.dossier.specs.Limits.{width, most_elements}
 use Rattle.dossier.specs.Elements.{Mark, marks_of}
 use Rattle.dossier.specs.Bytes.{records, elements_of}
@@ -177,8 +170,8 @@ back_fits d rs =
 -- by any way to answer whose least marks list at most a rule for each element
 module _ (A : Answers) (d : List ℕ) (x : Reply) (fits : FitsReply x) (sound : (n : ℕ) → x ≡ Count n → Sound d)
     (least-few : Sound d → (ms : List Mark) → Least A (elements_of d) ms → count (elements_of d) ms ≤ most_elements) where
-  folded-after-fits : (reply : Reply) (new : List ℕ) → FoldedAfter A x d reply new → FitsReply reply
-  folded-after-fits =
+  folded_after_fits : (reply : Reply) (new : List ℕ) → FoldedAfter A x d reply new → FitsReply reply
+  folded_after_fits =
       after-all Refused d (Folds A d) FitsReply x (λ f e. subst FitsReply e fits)
       (λ n e r b f. let l = least-few (sound n e) f.marks f.folds.least in rw f.counted (omega arith))
 
@@ -194,8 +187,8 @@ module _ (A : Answers) (d : List ℕ) (x : Reply) (fits : FitsReply x) (sound : 
   reports_fits s (judgement.Reported q) b h = (omega (arith, s.few, listed-most d, h.counted), verdict_fits s q.verdict h.holds)
   reports_fits s (judgement.Refused f) b h = absurd h
 
-  judged-after-fits : (j : Judgement) → JudgedAfter A x d j → FitsJudgement j
-  judged-after-fits j =
+  judged_after_fits : (j : Judgement) → JudgedAfter A x d j → FitsJudgement j
+  judged_after_fits j =
       after-all judgement.Refused tt (Reports A d) FitsJudgement x (λ f e. subst FitsReply e fits) (λ n e. reports_fits (sound n e)) j tt
 
 -- by the listed rules
@@ -207,10 +200,10 @@ walked-few : (d : List ℕ) → Sound d → (ms : List Mark) → Least (walked f
 walked-few d s ms l = listed-few first_applicable d s ms (least_as (first_matches (elements_of d) s.order) ms l)
 
 pub folded_fits : (d : List ℕ) (reply : Reply) (new : List ℕ) → Folded d reply new → FitsReply reply
-folded_fits d = folded-after-fits (walked first) d (read_of d) (read_fits d) (counted-sound d) (walked-few d)
+folded_fits d = folded_after_fits (walked first) d (read_of d) (read_fits d) (counted-sound d) (walked-few d)
 
 pub judged-fits : (d : List ℕ) (j : Judgement) → Judged d j → FitsJudgement j
-judged-fits d = judged-after-fits (walked first) d (read_of d) (read_fits d) (counted-sound d) (walked-few d)
+judged-fits d = judged_after_fits (walked first) d (read_of d) (read_fits d) (counted-sound d) (walked-few d)
 
 module _ (c : ℕ) (d : List ℕ) where
   asked_for_fits : FitsReply (asked_for d c)
@@ -222,10 +215,10 @@ module _ (c : ℕ) (d : List ℕ) where
       go false l = omega arith
 
   pub folded_for_fits : (reply : Reply) (new : List ℕ) → FoldedFor c d reply new → FitsReply reply
-  folded_for_fits = folded-after-fits (by_rules (combining_of c)) d (asked_for d c) asked_for_fits (asked-sound d c) (listed-few (combining_of c) d)
+  folded_for_fits = folded_after_fits (by_rules (combining_of c)) d (asked_for d c) asked_for_fits (asked-sound d c) (listed-few (combining_of c) d)
 
   pub judged_for_fits : (j : Judgement) → JudgedFor c d j → FitsJudgement j
-  judged_for_fits = judged-after-fits (by_rules (combining_of c)) d (asked_for d c) asked_for_fits (asked-sound d c) (listed-few (combining_of c) d)
+  judged_for_fits = judged_after_fits (by_rules (combining_of c)) d (asked_for d c) asked_for_fits (asked-sound d c) (listed-few (combining_of c) d)
 
 pub views_fits : (d area : List ℕ) (reply : Reply) (new : List ℕ) → Views d area reply new → FitsReply reply
 views_fits d area =

@@ -1,12 +1,6 @@
 -- The deciding rule's bytes as they are copied: all eight, or none. Assumes nothing.
-use mathlib.Core.Path.{◌≡◌, refl, sym, ap, ◌∙◌}
-use mathlib.Core.Logic.{◌⊎◌, inl, inr}
-use Prim.Native.Nat.{ℕ}
-use native.Mathlib.Omega.{arith}
-use mathlib.Core.List.{List, [], ◌∷◌, append-nil}
-use lib.ListN.{length, drop}
+use Rattle.std.proofs.Common.{◌≡◌, ℕ, ◌⊎◌, List, [], ◌∷◌, length, drop, sym, refl, ap, ◌∙◌, inl, inr, append-nil, arith, eq-eqb}
 use lib.Seq.{drop-length}
-use borrow.Author.Tests.{eq-eqb}
 use Rattle.dossier.specs.Limits.{width}
 use Rattle.dossier.specs.Bytes.{run, byte_of}
 use Rattle.dossier.specs.Replies.{area_after}

@@ -1,5 +1,5 @@
 -- Replies as one number of 64 bits, for callers in other languages. Document 01, "Refusal numbers" and "Least marks", for a caller in C. Assumes nothing: these are definitions.
-use Rattle.std.specs.Prelude.{◌≡◌, ℕ, ◌+◌, ◌*◌, ◌%◌, cond, List, [], ◌∷◌, length, get_or, eqb}
+use Rattle.std.specs.Prelude.{◌≡◌, ℕ, ◌+◌, ◌*◌, ◌%◌, cond, List, [], ◌∷◌, length, get_or, ◌==◌}
 use Rattle.dossier.specs.Numbers.{refusal_numbers, reply_numbers, answer_numbers}
 use Rattle.dossier.specs.declared.Refusal.{Refusal}
 use Rattle.dossier.specs.declared.Reply.{Reply}
@@ -12,7 +12,7 @@ use Rattle.least.specs.declared.Judgement.TheVariants as judgement
 -- one number as it is, and the three of a refusal: 2^63 + number * 2^40 + list * 2^32 + position; a position is below 2^32
 abbrev pub packed_numbers : List ℕ → ℕ
 packed_numbers ns =
-    cond (eqb (length ns) 1) (get_or ns 0 0)
+    cond (length ns == 1) (get_or ns 0 0)
     (9223372036854775808 + get_or ns 0 0 * 1099511627776 + get_or ns 1 0 * 4294967296 + get_or ns 2 0 % 4294967296)
 
 abbrev pub packed_refusal : Refusal → ℕ

@@ -1,11 +1,5 @@
 -- The rules that any marks of a sound dossier list: the lister writes them, first applicable decides over them as the marks say, and reading back yields the marks. Assumes nothing.
-use mathlib.Core.Path.{◌≡◌, refl, sym, ◌∙◌}
-use mathlib.Core.Logic.{◌↔◌}
-use Prim.Native.Nat.{ℕ, ◌+◌, ◌*◌, ◌≤◌, ◌<◌}
-use native.Mathlib.Omega.{arith}
-use mathlib.Core.List.{List, [], append-nil}
-use lib.ListN.{length}
-use borrow.Author.Tests.{le-ltb}
+use Rattle.std.proofs.Common.{◌≡◌, ℕ, ◌+◌, ◌*◌, ◌<◌, ◌≤◌, ◌↔◌, List, [], length, sym, refl, ◌∙◌, append-nil, arith, le-ltb}
 use Rattle.dossier.specs.Limits.{width}
 use Rattle.dossier.specs.Elements.{Mark, m-, m+, m±, marks_of}
 use Rattle.dossier.specs.Bytes.{records, key_at, elements_of, with_marks}
@@ -114,9 +108,9 @@ module _ (d : List ℕ) (m : Marking d) where
 
 -- ---- a list that no marks give
 
-pub no_marks-refused : (d rs : List ℕ) (reply : Reply) (new : List ℕ) → Sound d → SoundRules d rs → Back d rs reply new
+pub no_marks_refused : (d rs : List ℕ) (reply : Reply) (new : List ℕ) → Sound d → SoundRules d rs → Back d rs reply new
     → (reply ≡ refusal 9 1 0) ↔ ((ms : List Mark) → Gives d ms (rules_of rs) → ⊥)
-no_marks-refused d rs reply new s t b =
+no_marks_refused d rs reply new s t b =
     let told : Told d rs reply new = rw (sound-counted d s, (count-sound d rs 1 (records rs)).1 (t, refl)) at b in
     let r = told-refused d rs told (record { number = 9; list = 1; position = 0 }) in
     (λ e. (r.0 e).1, λ n. r.1 (refl, n))

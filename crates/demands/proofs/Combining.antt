@@ -1,14 +1,8 @@
 -- The decision of each combining is the published one: it is what the rule says in words about positions, and nothing else is. Assumes nothing.
-use mathlib.Core.Path.{◌≡◌, refl, sym, ap, ap₂, ◌∙◌, subst}
-use mathlib.Core.Logic.{◌↔◌}
+use Rattle.std.proofs.Common.{◌≡◌, ℕ, zero, suc, ◌<◌, Bool, true, false, cond, ◌&&◌, ◌↔◌, List, [], ◌∷◌, sym, refl, ap, ◌∙◌, subst, ap₂, true≢false, arith, eq-eqb, eqb-true}
 use mathlib.Core.Option.{some, some-injective, none-ne-some}
-use Prim.Native.Nat.{ℕ, zero, suc, ◌<◌}
 use native.Mathlib.Decide.{dec_le}
-use native.Mathlib.Omega.{arith}
-use mathlib.Core.Bool.{Bool, true, false, true≢false, cond, ◌&&◌}
-use mathlib.Core.List.{List, [], ◌∷◌}
 use lib.ListN.{get_elem?}
-use borrow.Author.Tests.{eqb-true, eq-eqb}
 use Rattle.dossier.specs.Elements.{Effect, deny, permit, Element, is}
 use Rattle.dossier.specs.Order.{Ordered}
 use Rattle.dossier.specs.declared.Decision.{Decision}

@@ -1,9 +1,5 @@
 -- Each combining has its number, 0 is the base's folder and judge, and permit overrides is deny overrides with permit and deny exchanged. Assumes nothing.
-use mathlib.Core.Path.{◌≡◌, sym, ◌∙◌, subst}
-use mathlib.Core.Logic.{◌↔◌}
-use Prim.Native.Nat.{ℕ}
-use mathlib.Core.List.{List}
-use lib.ListN.{length}
+use Rattle.std.proofs.Common.{◌≡◌, ℕ, ◌↔◌, List, length, sym, ◌∙◌, subst}
 use Rattle.dossier.specs.Elements.{Mark, Element}
 use Rattle.dossier.specs.declared.Decision.{Decision}
 use Rattle.rules.specs.Combining.{deny_overrides, permit_overrides}

@@ -1,11 +1,7 @@
 -- Deciding one element gives the published decision, and the second call the deciding rule's bytes. Assumes nothing.
-use mathlib.Core.Path.{◌≡◌, refl, sym, ap, ◌∙◌}
-use mathlib.Core.Logic.{◌↔◌, ◌≢◌, ◌⊎◌, inl, inr}
+use Rattle.std.proofs.Common.{◌≡◌, ℕ, zero, suc, ◌<◌, ◌≤◌, ◌≢◌, ◌⊎◌, ◌↔◌, List, [], ◌∷◌, length, get_or, sym, refl, ap, ◌∙◌, inl, inr, arith}
 use mathlib.Core.Option.{some, some-injective, none-ne-some}
-use Prim.Native.Nat.{ℕ, zero, suc, ◌≤◌, ◌<◌}
-use native.Mathlib.Omega.{arith}
-use mathlib.Core.List.{List, [], ◌∷◌}
-use lib.ListN.{length, get_or, get_elem?}
+use lib.ListN.{get_elem?}
 use Rattle.dossier.specs.Elements.{Effect, deny, permit, is}
 use Rattle.dossier.specs.Bytes.{records, elements_of}
 use Rattle.dossier.specs.Order.{Ordered}

@@ -1,12 +1,7 @@
 -- What each public function promises fixes its reply and what each lent buffer then holds. Assumes nothing.
-use mathlib.Core.Path.{◌≡◌, refl, sym, ap, ◌∙◌}
-use Prim.Native.Nat.{ℕ, ◌<◌}
-use native.Mathlib.Nat.{zero-add}
+use Rattle.std.proofs.Common.{◌≡◌, ℕ, ◌<◌, List, [], length, get_or, sym, refl, ap, ◌∙◌, zero-add, arith, ext_get_or}
 use native.Mathlib.Decide.{ℕ_discrete}
-use native.Mathlib.Omega.{arith}
-use mathlib.Core.List.{List, [], List-discrete}
-use lib.ListN.{length, get_or}
-use lib.Seq.{ext_get_or}
+use mathlib.Core.List.{List-discrete}
 use Rattle.dossier.specs.Elements.{Mark, mn, marks_of, mark_of}
 use Rattle.dossier.specs.Bytes.{records, run, elements_of, joined, with_marks}
 use Rattle.dossier.specs.Replies.{refusal, and_then, afterwards, room_for, fronted}
@@ -82,8 +77,8 @@ step-only w r = go (leaves? w)
     go (yes left) = by (take_of w r) (steps_by w r (take_of w r) (λ l. refl) (λ n. absurd (n left)))
     go (no never) = by (refused_step w 17 0) (steps_by w r (refused_step w 17 0) (λ l. absurd (never l)) (λ n. refl))
 
-in_place-only : (w : Walk) (r : List ℕ) → OneReply (λ (reply : Answer) (new : Walk). Steps w r (record { walk = new; answer = reply }))
-in_place-only w r =
+in_place_only : (w : Walk) (r : List ℕ) → OneReply (λ (reply : Answer) (new : Walk). Steps w r (record { walk = new; answer = reply }))
+in_place_only w r =
     let s = step-only w r in
     one-reply (λ (reply : Answer) (new : Walk). Steps w r (record { walk = new; answer = reply }))
     (λ a b v u g h. (let e = steps_one w r _ _ g h in (ap (λ (x : Stepped). x.answer) e, ap (λ (x : Stepped). x.walk) e)))
@@ -220,7 +215,7 @@ view-only d area = go (read_of d) refl
 pub definite : Definite
 definite = record {
   step = step-only;
-  step_in_place = in_place-only;
+  step_in_place = in_place_only;
   read_back = back-only;
   fold = fold-only;
   judge = judge-only;

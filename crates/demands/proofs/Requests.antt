@@ -1,13 +1,5 @@
 -- Each request gives the first refusal of its order, and a refusal leaves what was lent to it as it was. Assumes nothing.
-use mathlib.Core.Path.{◌≡◌, refl, sym, ◌∙◌}
-use mathlib.Core.Logic.{◌↔◌}
-use Prim.Native.Nat.{ℕ}
-use native.Mathlib.Omega.{arith}
-use mathlib.Core.Bool.{Bool, true, false, cond}
-use mathlib.Core.List.{List}
-use lib.ListN.{length}
-use lib.Dec.{ltb, leb}
-use borrow.Author.Tests.{ltb-true, ltb-false, leb-true, leb-false}
+use Rattle.std.proofs.Common.{◌≡◌, ℕ, Bool, true, false, cond, ltb, leb, ◌↔◌, List, length, sym, refl, ◌∙◌, arith, ltb-false, ltb-true, leb-false, leb-true}
 use Rattle.dossier.specs.Limits.{width}
 use Rattle.dossier.specs.Bytes.{records, elements_of}
 use Rattle.dossier.specs.Replies.{refusal, and_then, room_for}

@@ -1,13 +1,6 @@
 -- Old and new dossiers: what the old reader accepts is read now with the same elements, so that listing, folding and judging stay; and a depth over 63 is refused by the old reader at the first record of depth 64. Assumes nothing.
-use mathlib.Core.Path.{◌≡◌, refl, sym, ◌∙◌}
-use mathlib.Core.Logic.{◌⊎◌, inl, inr}
-use Prim.Native.Nat.{ℕ, zero, suc, ◌≤◌, ◌<◌}
+use Rattle.std.proofs.Common.{◌≡◌, ℕ, zero, suc, ◌<◌, ◌≤◌, ltb, ◌⊎◌, List, sym, refl, ◌∙◌, inl, inr, arith, below_more, ltb-false, le-ltb, lt-ltb}
 use native.Mathlib.Decide.{dec_le}
-use native.Mathlib.Omega.{arith}
-use mathlib.Core.List.{List}
-use lib.Dec.{ltb}
-use borrow.Author.Count.{below_more}
-use borrow.Author.Tests.{ltb-false, le-ltb, lt-ltb}
 use Rattle.dossier.specs.Bytes.{records, byte_of, depth_at, element_at, elements_of}
 use Rattle.dossier.specs.Reading.{fields_at, low_after, high_after, last_before, fault_at, read_of, Sound}
 use Rattle.dossier.specs.declared.Reply.TheVariants as reply

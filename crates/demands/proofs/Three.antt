@@ -5,7 +5,7 @@ use Rattle.rules.specs.Combining.{Combining}
 use Rattle.marks.specs.Marks.{first}
 use Rattle.least.proofs.Folds.{minuses-right, first_plain}
 use Rattle.least.proofs.Gateways.{minus_listed}
-use Rattle.least.proofs.OwnMarks.{asked-counted, own-list, own_verdict, own_ignore, own-list_for, own_verdict_for, own_ignore_for}
+use Rattle.least.proofs.OwnMarks.{asked-counted, own-list, own_verdict, own_ignore, own_list_for, own_verdict_for, own_ignore_for}
 use Rattle.demands.specs.Demand3.{walking, combining, Demand3}
 use Rattle.demands.proofs.Verdicts.{demand_by}
 
@@ -22,7 +22,7 @@ pub demand_3_for : (c : Combining) → Demand3 (combining c)
 demand_3_for c = demand_by (combining c) (record {
   accepted = asked-counted c;
   minuses = λ d s. minus_listed c (elements_of d) s.order;
-  lists = own-list_for c;
+  lists = own_list_for c;
   judged = own_verdict_for c;
   ignores = own_ignore_for c;
 })

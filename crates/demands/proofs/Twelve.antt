@@ -1,14 +1,7 @@
 -- The twelve cases hold: one test, which computes a case by the folder's and the judge's closed functions, and what it finds is a proof. Assumes nothing.
-use mathlib.Core.Path.{◌≡◌, refl, sym, ap, ◌∙◌, subst}
+use Rattle.std.proofs.Common.{◌≡◌, ℕ, suc, Bool, true, false, eqb, List, [], ◌∷◌, length, sym, refl, ap, ◌∙◌, subst, arith, eqb-true}
 use mathlib.Core.Option.{Option, none, some, bind}
-use Prim.Native.Nat.{ℕ, suc}
 use native.Mathlib.Decide.{dec_le}
-use native.Mathlib.Omega.{arith}
-use mathlib.Core.Bool.{Bool, true, false}
-use mathlib.Core.List.{List, [], ◌∷◌}
-use lib.ListN.{length}
-use lib.Dec.{eqb}
-use borrow.Author.Tests.{eqb-true}
 use Rattle.dossier.specs.Elements.{Mark, Element, mark_number, mark_of, decision_number, decision_of}
 use Rattle.dossier.specs.Bytes.{depth_at, dossier_bytes}
 use Rattle.dossier.specs.Order.{Ordered}

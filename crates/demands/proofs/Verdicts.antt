@@ -1,10 +1,5 @@
 -- The judge's verdict and the folder's marks, in the words of demand 3. Assumes nothing.
-use mathlib.Core.Path.{◌≡◌, refl, subst}
-use mathlib.Core.Logic.{◌↔◌}
-use Prim.Native.Nat.{ℕ, ◌*◌, ◌≤◌}
-use mathlib.Core.List.{List}
-use lib.ListN.{length, replicate}
-use borrow.Author.Tests.{le-ltb}
+use Rattle.std.proofs.Common.{◌≡◌, ℕ, ◌*◌, ◌≤◌, ◌↔◌, List, length, replicate, refl, subst, le-ltb}
 use Rattle.dossier.specs.Limits.{width}
 use Rattle.dossier.specs.Elements.{Mark, m-}
 use Rattle.dossier.specs.Bytes.{records, elements_of, with_marks}

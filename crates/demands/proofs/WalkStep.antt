@@ -1,12 +1,6 @@
 -- A walk step gives the first refusal of its order: 17, 2, 3, then 5, 4 and 6 of the record. Assumes nothing.
-use mathlib.Core.Path.{◌≡◌, refl, ap}
-use mathlib.Core.Logic.{◌≢◌}
-use Prim.Native.Nat.{ℕ, ◌≤◌}
-use native.Mathlib.Nat.{lt_of_not-le}
+use Rattle.std.proofs.Common.{◌≡◌, ℕ, ◌≤◌, ◌≢◌, List, length, refl, ap, lt_of_not-le, arith}
 use native.Mathlib.Decide.{ℕ_discrete, dec_le}
-use native.Mathlib.Omega.{arith}
-use mathlib.Core.List.{List}
-use lib.ListN.{length}
 use Rattle.dossier.specs.Limits.{width, most_elements}
 use Rattle.dossier.specs.Reading.{fields_at}
 use Rattle.dossier.specs.Refusing.{Refusals, ◌before◌, first, later}

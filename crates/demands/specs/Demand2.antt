@@ -64,5 +64,5 @@ pub record Demand2 : Type 0 where
   pub read_back : (d : List ℕ) (m : Marking d) (reply : Reply) (new : List ℕ) → Sound d → Back d (list_bytes (rules_from d m)) reply new
       → (reply ≡ Count (records d)) × (new ≡ with_marks d 0 m.marks) × (marks_of (elements_of new) ≡ m.marks)
   -- a list that no marks give is refused, and only such a one
-  pub no_marks-refused : (d rs : List ℕ) (reply : Reply) (new : List ℕ) → Sound d → SoundRules d rs → Back d rs reply new
+  pub no_marks_refused : (d rs : List ℕ) (reply : Reply) (new : List ℕ) → Sound d → SoundRules d rs → Back d rs reply new
       → (reply ≡ refusal 9 1 0) ↔ ((ms : List Mark) → Gives d ms (rules_of rs) → ⊥)

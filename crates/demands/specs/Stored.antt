@@ -1,6 +1,6 @@
 -- Dossiers of the old kind, which lie in store: what their reader read, when it refused, which elements it saw, and what was promised over these. Request M-103: "stored dossiers … read as before, with the same marks, lists and counts. A reader of the old kind, given a sound dossier of the new kind with a depth over 63, always refuses by 5 at its first record of depth 64".
 -- Assumes nothing: these are definitions.
-use Rattle.std.specs.Prelude.{◌≡◌, ◌↔◌, ◌≢◌, ℕ, zero, suc, ◌<◌, List, cond, length, ltb}
+use Rattle.std.specs.Prelude.{◌≡◌, ◌↔◌, ◌≢◌, ℕ, zero, suc, ◌<◌, List, cond, length, nat_lt}
 use Rattle.dossier.specs.Elements.{Element, marks_of, effect_of, mark_of}
 use Rattle.dossier.specs.Bytes.{records, byte_of, run, depth_at, key_at, elements_of}
 use Rattle.dossier.specs.Replies.{refusal, and_then, afterwards, After, room_for, fronted}
@@ -48,12 +48,12 @@ old_before d (suc i) = old_depth d i
 
 unfoldable pub old_fault : List ℕ → ℕ → ℕ
 old_fault d i =
-    cond (ltb old_deepest (old_depth d i)) 5
-    (cond (ltb (old_depth d i) (low_after i)) 4
-    (cond (ltb (high_after i (old_before d i)) (old_depth d i)) 4
-    (cond (ltb 1 (byte_of d i 1)) 6
-    (cond (ltb 3 (byte_of d i 2)) 6
-    (cond (ltb 0 (byte_of d i 3)) 6 0)))))
+    cond (nat_lt old_deepest (old_depth d i)) 5
+    (cond (nat_lt (old_depth d i) (low_after i)) 4
+    (cond (nat_lt (high_after i (old_before d i)) (old_depth d i)) 4
+    (cond (nat_lt 1 (byte_of d i 1)) 6
+    (cond (nat_lt 3 (byte_of d i 2)) 6
+    (cond (nat_lt 0 (byte_of d i 3)) 6 0)))))
 
 unfoldable pub old_read : List ℕ → Reply
 old_read d = read_by (old_fault d) d

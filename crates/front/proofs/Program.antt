@@ -1,11 +1,6 @@
 -- What is printed is one text, and it speaks of the whole input though only its front is kept. Assumes nothing.
-use mathlib.Core.Path.{◌≡◌, refl, sym, ap, ap₂, subst, ◌∙◌}
-use Prim.Native.Nat.{ℕ, ◌*◌, ◌<◌}
-use native.Mathlib.Omega.{arith}
+use Rattle.std.proofs.Common.{◌≡◌, ℕ, ◌*◌, ◌<◌, List, length, sym, refl, ap, ◌∙◌, subst, ap₂, lt_of_not-le, arith}
 use native.Mathlib.Decide.{dec_le}
-use native.Mathlib.Nat.{lt_of_not-le}
-use mathlib.Core.List.{List}
-use lib.ListN.{length}
 use Rattle.dossier.specs.Limits.{width, most_elements}
 use Rattle.dossier.specs.Reading.{read_of}
 use Rattle.dossier.specs.declared.Reply.{Reply}

@@ -1,11 +1,5 @@
 -- What the folder and the lister leave is what is printed: the lister has room for all rules of a folded dossier. Assumes nothing.
-use mathlib.Core.Path.{◌≡◌, refl, sym, ap, ◌∙◌}
-use Prim.Native.Nat.{ℕ, ◌*◌, ◌≤◌, ◌<◌}
-use native.Mathlib.Omega.{arith}
-use mathlib.Core.List.{List}
-use lib.ListN.{length, take, drop}
-use lib.Seq.{take_at}
-use borrow.Author.Tests.{le-ltb}
+use Rattle.std.proofs.Common.{◌≡◌, ℕ, ◌*◌, ◌<◌, ◌≤◌, List, length, take, drop, sym, refl, ap, ◌∙◌, arith, take_at, le-ltb}
 use Rattle.dossier.specs.Limits.{width, most_elements}
 use Rattle.dossier.specs.Bytes.{records}
 use Rattle.dossier.specs.Replies.{room_by, fronted}

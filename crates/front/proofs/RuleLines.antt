@@ -1,9 +1,5 @@
 -- The lines that are printed: the words of their numbers, one line after the other, and how long they are at most. Assumes nothing.
-use mathlib.Core.Path.{◌≡◌, refl, ap}
-use Prim.Native.Nat.{ℕ, zero, suc, ◌+◌, ◌*◌, ◌-◌, ◌≤◌, ◌<◌}
-use native.Mathlib.Omega.{arith}
-use mathlib.Core.List.{List, [], ◌++◌, append_assoc}
-use lib.ListN.{length, length-append}
+use Rattle.std.proofs.Common.{◌≡◌, ℕ, zero, suc, ◌+◌, ◌-◌, ◌*◌, ◌<◌, ◌≤◌, List, [], ◌++◌, length, refl, ap, append_assoc, arith, length-append}
 use Rattle.dossier.specs.Limits.{most_elements}
 use Rattle.dossier.specs.Elements.{effect_of}
 use Rattle.dossier.specs.Bytes.{records, byte_of, run, joined}

@@ -1,9 +1,7 @@
 -- The best sums by position: what the loop over an element's children keeps, for any elements that stand at the positions 0 to n - 1, whatever they are read from.
 -- Assumes nothing.
-use mathlib.Core.Path.{◌≡◌, refl, ap, fun_ext}
-use Prim.Native.Nat.{ℕ, suc, ◌+◌, ◌*◌, ◌≤◌, ◌<◌}
-use native.Mathlib.Nat.{mul-le-mul_right}
-use native.Mathlib.Omega.{arith}
+use Rattle.std.proofs.Common.{◌≡◌, ℕ, suc, ◌+◌, ◌*◌, ◌<◌, ◌≤◌, refl, ap, mul-le-mul_right, arith}
+use mathlib.Core.Path.{fun_ext}
 use Rattle.dossier.specs.Limits.{most_elements}
 use Rattle.dossier.specs.Elements.{Element}
 use Rattle.dossier.specs.Forest.{Forest, nil, size_f, forest_below, end_of}

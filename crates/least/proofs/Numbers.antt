@@ -1,10 +1,6 @@
 -- The numbers of a report say of marks exactly what holds of them. Assumes nothing.
-use mathlib.Core.Path.{◌≡◌, refl, sym, ap, ap₂, subst, ◌∙◌}
-use mathlib.Core.Logic.{◌↔◌}
-use Prim.Native.Nat.{ℕ}
-use native.Mathlib.Omega.{arith}
-use mathlib.Core.List.{List, ◌∷◌, tail-eq_of_cons-eq}
-use lib.ListN.{get_or}
+use Rattle.std.proofs.Common.{◌≡◌, ℕ, ◌↔◌, List, ◌∷◌, get_or, sym, refl, ap, ◌∙◌, subst, ap₂, arith}
+use mathlib.Core.List.{tail-eq_of_cons-eq}
 use Rattle.dossier.specs.Elements.{Mark, Element, decision_number, decision_of}
 use Rattle.dossier.specs.declared.Decision.{Decision}
 use Rattle.marks.proofs.Laws.{decision-number}

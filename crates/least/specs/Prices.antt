@@ -1,7 +1,7 @@
 -- Prices: what a mark costs its element and everything below, the mark of the least price, and the best sums of a forest, for any gateway.
 -- It says "An element's best counts follow from those of its children, .. separately for each value that may come from above" of document 01.
 -- Assumes nothing: these are definitions.
-use Rattle.std.specs.Prelude.{ℕ, suc, ◌+◌, Bool, true, false, cond, leb}
+use Rattle.std.specs.Prelude.{ℕ, suc, ◌+◌, Bool, true, false, cond, nat_le}
 use Rattle.dossier.specs.Limits.{most_elements}
 use Rattle.dossier.specs.Elements.{Effect, Mark, mn, m-, m+, m±, Element}
 use Rattle.dossier.specs.Forest.{Forest, nil, node}
@@ -12,7 +12,7 @@ use Rattle.listing.specs.Listing.{cost}
 
 -- the mark with the smaller price, and where they are equal the first
 unfoldable pub better : (Mark → ℕ) → Mark → Mark → Mark
-better f a b = cond (leb (f a) (f b)) a b
+better f a b = cond (nat_le (f a) (f b)) a b
 
 -- of all four marks the one with the least price, and where several have it the first
 unfoldable pub choose : (Mark → ℕ) → Mark

@@ -1,13 +1,7 @@
 -- Texts put into an area one after the other: what is there in the end, and that there is room for each. Assumes nothing.
-use mathlib.Core.Path.{◌≡◌, refl, sym, ap, ap₂, ◌∙◌}
-use Prim.Native.Nat.{ℕ, suc, ◌+◌, ◌≤◌, ◌<◌}
-use native.Mathlib.Omega.{arith}
-use native.Mathlib.Numerals.{add-one}
-use native.Mathlib.Nat.{add-zero}
-use mathlib.Core.List.{List, [], ◌∷◌, ◌++◌}
-use lib.ListN.{length, take, drop, get_or, set, length-append}
-use borrow.Author.Tests.{le-leb, lt-leb}
-use lib.Seq.{take_at, drop-cons, drop-length, sets, sets-eq, length-sets}
+use Rattle.std.proofs.Common.{◌≡◌, ℕ, suc, ◌+◌, ◌<◌, ◌≤◌, List, [], ◌∷◌, ◌++◌, length, get_or, take, drop, set, sym, refl, ap, ◌∙◌, ap₂, add-zero, add-one, arith, length-append, drop-cons, take_at, le-leb}
+use borrow.Author.Tests.{lt-leb}
+use lib.Seq.{drop-length, sets, sets-eq, length-sets}
 use Rattle.dossier.specs.Replies.{area_after}
 use Rattle.dossier.proofs.Stores.{sets_more, area-fits, area-none}
 use Rattle.programs.specs.Area.{place_after, Room, Puts}

@@ -1,13 +1,8 @@
 -- The laws of what stands for the whole input: counting on from it is counting on from the whole, and the reader replies to it as to the whole. Assumes nothing.
-use mathlib.Core.Path.{◌≡◌, refl, sym, ap, ◌∙◌}
-use Prim.Native.Nat.{ℕ, ◌+◌, ◌*◌, ◌%◌, ◌≤◌, ◌<◌}
-use mathlib.Core.List.{List, ◌++◌, append-nil}
-use native.Mathlib.Omega.{arith}
+use Rattle.std.proofs.Common.{◌≡◌, ℕ, ◌+◌, ◌*◌, ◌%◌, ◌<◌, ◌≤◌, List, ◌++◌, length, take, replicate, sym, refl, ap, ◌∙◌, append-nil, lt_of_not-le, arith, length-append, length-take-le, lt-ltb, ne_eqb, le-leb}
 use native.Mathlib.Decide.{dec_le}
-use native.Mathlib.Nat.{lt_of_not-le}
-use borrow.Author.Tests.{le-leb, lt-leb, lt-ltb, ne_eqb}
-use lib.ListN.{length, take, replicate, length-append, length-replicate}
-use lib.Seq.{length-take-le}
+use borrow.Author.Tests.{lt-leb}
+use lib.ListN.{length-replicate}
 use Rattle.dossier.specs.Limits.{width, most_elements}
 use Rattle.dossier.specs.Reading.{read_of}
 use Rattle.programs.specs.Standing.{stands_for, Kept, CountedOn, Gathered, Unread}

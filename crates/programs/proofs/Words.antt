@@ -1,9 +1,5 @@
 -- The words of effects, and how long they and a refusal's line are at most. Assumes nothing.
-use mathlib.Core.Path.{◌≡◌, refl}
-use Prim.Native.Nat.{ℕ, zero, suc, ◌≤◌}
-use native.Mathlib.Omega.{arith}
-use mathlib.Core.List.{List}
-use lib.ListN.{length, length-append}
+use Rattle.std.proofs.Common.{◌≡◌, ℕ, zero, suc, ◌≤◌, List, length, refl, arith, length-append}
 use mir.Syntax.{w8, w64}
 use mir.Val.{Fits}
 use Rattle.dossier.specs.Elements.{Effect, deny, permit, effect_of}

@@ -1,5 +1,5 @@
 -- What every program prints alike: words, numbers, an effect, a refusal. Document 01, "What is built": "one program". Assumes nothing: these are definitions.
-use Rattle.std.specs.Prelude.{ℕ, zero, suc, ◌/◌, cond, List, [], ◌∷◌, ◌++◌, ltb}
+use Rattle.std.specs.Prelude.{ℕ, zero, suc, ◌/◌, cond, List, [], ◌∷◌, ◌++◌, nat_lt}
 use Prim.Native.Char.{code}
 use Prim.Native.String.{String, [] as empty, ◌∷◌ as ◌then◌}
 use Rattle.io.specs.Digits.{last_digits}
@@ -14,7 +14,7 @@ ascii (c then s) = code c ∷ ascii s
 -- how many decimal digits n has, looking at no more than `most` after the first
 unfoldable pub places : ℕ → ℕ → ℕ
 places zero n = 1
-places (suc most) n = cond (ltb n 10) 1 (suc (places most (n / 10)))
+places (suc most) n = cond (nat_lt n 10) 1 (suc (places most (n / 10)))
 
 -- a number in decimal
 unfoldable pub decimal : ℕ → List ℕ

@@ -1,10 +1,10 @@
 -- What stands for a whole input, of which a program keeps the front: at most so many records. Document 01, "Refusal numbers": 3 for an input that is too long. Assumes nothing: these are definitions.
-use Rattle.std.specs.Prelude.{◌≡◌, ℕ, ◌+◌, ◌*◌, ◌%◌, ◌≤◌, ◌<◌, cond, List, length, take, leb}
+use Rattle.std.specs.Prelude.{◌≡◌, ℕ, ◌+◌, ◌*◌, ◌%◌, ◌≤◌, ◌<◌, cond, List, length, take, nat_le}
 use Rattle.dossier.specs.Limits.{width}
 
 -- the length that stands for n bytes: n itself, and past the bytes of the most records one that is too long too and has the same rest
 unfoldable pub stands_for : ℕ → ℕ → ℕ
-stands_for most n = cond (leb n (most * width)) n (most * width + width + n % width)
+stands_for most n = cond (nat_le n (most * width)) n (most * width + width + n % width)
 
 -- what is kept of the bytes w: all of them, or where they are too many a part that stands for them
 pub record Kept (most : ℕ) (w d : List ℕ) : Type 0 where

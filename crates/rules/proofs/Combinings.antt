@@ -1,7 +1,5 @@
 -- A combining and its number stand for each other. Assumes nothing.
-use mathlib.Core.Path.{◌≡◌, refl}
-use Prim.Native.Nat.{ℕ, zero, suc, ◌≤◌}
-use native.Mathlib.Omega.{arith}
+use Rattle.std.proofs.Common.{◌≡◌, ℕ, zero, suc, ◌≤◌, refl, arith}
 use Rattle.rules.specs.Combining.{Combining, first_applicable, deny_overrides, permit_overrides, combining_number, last_combining, combining_of}
 
 pub of_number : (c : Combining) → combining_of (combining_number c) ≡ c

@@ -1,12 +1,6 @@
 -- Which elements belong in the view, element by element: what the first says of those behind it. Assumes nothing.
-use mathlib.Core.Path.{◌≡◌, refl, sym, ◌∙◌}
-use mathlib.Core.Logic.{◌↔◌}
-use Prim.Native.Nat.{ℕ, zero, suc, ◌≤◌, ◌<◌}
-use native.Mathlib.Omega.{arith}
-use mathlib.Core.Bool.{true, false≢true, and-eq-true_iff}
-use mathlib.Core.List.{List, [], ◌∷◌}
-use lib.Dec.{ltb}
-use borrow.Author.Tests.{ltb-true, lt-ltb, le-ltb}
+use Rattle.std.proofs.Common.{◌≡◌, ℕ, zero, suc, ◌<◌, ◌≤◌, true, ltb, ◌↔◌, List, [], ◌∷◌, sym, refl, ◌∙◌, arith, ltb-true, le-ltb, lt-ltb}
+use mathlib.Core.Bool.{false≢true, and-eq-true_iff}
 use Rattle.dossier.specs.Elements.{Element}
 use Rattle.dossier.specs.Below.{deeper, covers}
 use Rattle.dossier.specs.declared.Decision.{Decision}

@@ -1,14 +1,8 @@
 -- Every view that isn't empty is a sound dossier, and a root that is not permitted shows nothing. Assumes nothing.
-use mathlib.Core.Path.{◌≡◌, refl, sym, ap, ◌∙◌}
-use mathlib.Core.Logic.{◌≢◌, ⊎_elim}
-use Prim.Native.Nat.{ℕ, zero, suc, ◌*◌, ◌≤◌, ◌<◌}
-use native.Mathlib.Omega.{arith}
-use mathlib.Core.Bool.{Bool, true, false, cond, and-eq-true_iff}
-use mathlib.Core.List.{List, [], ◌∷◌, ◌++◌, map}
-use lib.ListN.{length, take, get_or, length-map}
+use Rattle.std.proofs.Common.{◌≡◌, ℕ, zero, suc, ◌*◌, ◌<◌, ◌≤◌, Bool, true, false, cond, ltb, ◌≢◌, List, [], ◌∷◌, ◌++◌, map, length, get_or, take, sym, refl, ap, ◌∙◌, ⊎_elim, arith, lt-ltb}
+use mathlib.Core.Bool.{and-eq-true_iff}
+use lib.ListN.{length-map}
 use lib.Seq.{take-append_seam}
-use lib.Dec.{ltb}
-use borrow.Author.Tests.{lt-ltb}
 use Rattle.dossier.specs.Limits.{width}
 use Rattle.dossier.specs.Elements.{Element, marks_of}
 use Rattle.dossier.specs.Bytes.{records, record_at, records_of, joined, element_at, elements_of}

@@ -1,10 +1,6 @@
 -- What is shown are the records of the elements that belong in the view. Assumes nothing.
-use mathlib.Core.Path.{◌≡◌, sym, ap, ◌∙◌}
-use Prim.Native.Nat.{ℕ, zero, suc, ◌+◌, ◌≤◌, ◌<◌}
-use native.Mathlib.Omega.{arith}
-use mathlib.Core.Bool.{Bool, true, false≢true, cond}
-use mathlib.Core.List.{List, [], ◌∷◌}
-use borrow.Author.Tests.{le-ltb}
+use Rattle.std.proofs.Common.{◌≡◌, ℕ, zero, suc, ◌+◌, ◌<◌, ◌≤◌, Bool, true, cond, List, [], ◌∷◌, sym, ap, ◌∙◌, arith, le-ltb}
+use mathlib.Core.Bool.{false≢true}
 use Rattle.dossier.specs.Elements.{Element, marks_of, decision_of, decision_number}
 use Rattle.dossier.specs.Bytes.{records, run, record_at, records_of, depth_at, element_at, elements_of}
 use Rattle.dossier.specs.Below.{deeper}

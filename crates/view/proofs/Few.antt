@@ -1,8 +1,5 @@
 -- The view is at most as long as the dossier. Assumes nothing.
-use Prim.Native.Nat.{ℕ, ◌≤◌}
-use native.Mathlib.Omega.{arith}
-use mathlib.Core.List.{List}
-use lib.ListN.{length}
+use Rattle.std.proofs.Common.{ℕ, ◌≤◌, List, length, arith}
 use Rattle.dossier.specs.Bytes.{records, record_at, records_of}
 use Rattle.dossier.proofs.Runs.{run_length}
 use Rattle.view.specs.View.{IsView}

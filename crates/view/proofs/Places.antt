@@ -1,11 +1,5 @@
 -- The positions of the records that a pass shows: they are the dossier's, and the depths there are in order. Assumes nothing.
-use mathlib.Core.Path.{◌≡◌, refl, ap}
-use mathlib.Core.Logic.{◌⊎◌, inl, inr}
-use Prim.Native.Nat.{ℕ, zero, suc, ◌+◌, ◌≤◌, ◌<◌}
-use native.Mathlib.Omega.{arith}
-use mathlib.Core.Bool.{Bool, true, false, cond}
-use mathlib.Core.List.{List, [], ◌∷◌, map}
-use lib.ListN.{length, get_or}
+use Rattle.std.proofs.Common.{◌≡◌, ℕ, zero, suc, ◌+◌, ◌<◌, ◌≤◌, Bool, true, false, cond, ◌⊎◌, List, [], ◌∷◌, map, length, get_or, refl, ap, inl, inr, arith}
 use Rattle.dossier.specs.Bytes.{records, record_at, depth_at, element_at}
 use Rattle.dossier.specs.Order.{Follows, Ordered}
 use Rattle.dossier.specs.Reading.{low_after, high_after, last_before, Sound}

@@ -1,12 +1,7 @@
 -- What one record does to a pass, case by case: it lies below a hidden one, it is permitted, or it is not. Assumes nothing.
-use mathlib.Core.Path.{◌≡◌, refl, sym, ap, ap₂, ◌∙◌}
-use Prim.Native.Nat.{ℕ, ◌≤◌, ◌<◌}
+use Rattle.std.proofs.Common.{◌≡◌, ℕ, ◌<◌, ◌≤◌, Bool, true, false, eqb, List, sym, refl, ap, ◌∙◌, ap₂, arith, le-ltb, lt-ltb, eq-eqb, ne_eqb, eqb-true}
 use native.Mathlib.Decide.{dec_le}
-use native.Mathlib.Omega.{arith}
-use mathlib.Core.Bool.{Bool, true, false}
-use mathlib.Core.List.{List}
-use lib.Dec.{eqb}
-use borrow.Author.Tests.{lt-ltb, le-ltb, eq-eqb, ne_eqb, eqb-true, eqb-false}
+use borrow.Author.Tests.{eqb-false}
 use Rattle.dossier.specs.Bytes.{byte_of, depth_at}
 use Rattle.marks.specs.Lent.{lent_answer, lent_after}
 use Rattle.view.specs.Inner.{Memory, memory, no_limit, hidden, permitted, shows, after}

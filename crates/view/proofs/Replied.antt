@@ -1,12 +1,5 @@
 -- What the view replies keeps its promise. Assumes nothing.
-use mathlib.Core.Path.{◌≡◌, refl, ◌∙◌}
-use Prim.Native.Nat.{ℕ, ◌*◌, ◌≤◌}
-use native.Mathlib.Omega.{arith}
-use mathlib.Core.List.{List}
-use mathlib.Core.Bool.{false}
-use lib.Dec.{leb}
-use borrow.Author.Tests.{le-ltb, lt-ltb, leb-false}
-use lib.ListN.{length}
+use Rattle.std.proofs.Common.{◌≡◌, ℕ, ◌*◌, ◌≤◌, false, leb, List, length, refl, ◌∙◌, arith, le-ltb, lt-ltb, leb-false}
 use lib.Seq.{sets}
 use Rattle.dossier.specs.Limits.{width}
 use Rattle.dossier.specs.Replies.{refusal, room_by}

@@ -1,11 +1,5 @@
 -- A pass by position: before element i its memory holds, up to the limit, what the walk's open depths hand down. Assumes nothing.
-use mathlib.Core.Path.{◌≡◌, refl, sym, ap, ◌∙◌}
-use Prim.Native.Nat.{ℕ, zero, suc, ◌≤◌, ◌<◌}
-use native.Mathlib.Numerals.{add-one}
-use native.Mathlib.Omega.{arith}
-use mathlib.Core.List.{List, []}
-use lib.ListN.{length, take, get_or}
-use lib.Seq.{take-take, get_or-take, length-take-le}
+use Rattle.std.proofs.Common.{◌≡◌, ℕ, zero, suc, ◌<◌, ◌≤◌, List, [], length, get_or, take, sym, refl, ap, ◌∙◌, add-one, arith, length-take-le, get_or-take, take-take}
 use Rattle.dossier.specs.Limits.{deepest}
 use Rattle.dossier.specs.Elements.{decision_number}
 use Rattle.dossier.specs.Bytes.{records, byte_of, depth_at, element_at}

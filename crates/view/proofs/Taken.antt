@@ -1,10 +1,5 @@
 -- Records of a sound dossier, taken at some of its positions: if their depths are in order, their bytes are a sound dossier. Assumes nothing.
-use mathlib.Core.Path.{◌≡◌, refl, sym, ap, ap₂, ◌∙◌}
-use Prim.Native.Nat.{ℕ, suc, ◌*◌, ◌≤◌, ◌<◌}
-use native.Mathlib.Nat.{zero-add}
-use native.Mathlib.Omega.{arith}
-use mathlib.Core.List.{List, [], ◌∷◌, ◌++◌, map}
-use lib.ListN.{length, get_or}
+use Rattle.std.proofs.Common.{◌≡◌, ℕ, suc, ◌*◌, ◌<◌, ◌≤◌, List, [], ◌∷◌, ◌++◌, map, length, get_or, sym, refl, ap, ◌∙◌, ap₂, zero-add, arith}
 use Rattle.dossier.specs.Limits.{width, most_elements}
 use Rattle.dossier.specs.Bytes.{records, byte_of, run, record_at, joined, depth_at, element_at, elements_of}
 use Rattle.dossier.specs.Order.{Ordered}

@@ -1,8 +1,5 @@
 -- The view's reply, and what the area then holds, are determined. Assumes nothing.
-use mathlib.Core.Path.{◌≡◌, sym, ap, ◌∙◌}
-use mathlib.Core.List.{List}
-use Prim.Native.Nat.{ℕ}
-use lib.ListN.{length}
+use Rattle.std.proofs.Common.{◌≡◌, ℕ, List, length, sym, ap, ◌∙◌}
 use Rattle.dossier.specs.Replies.{room_for}
 use Rattle.dossier.specs.Reading.{read_of}
 use Rattle.dossier.specs.declared.Reply.{Reply}

@@ -1,5 +1,5 @@
 -- What the functions inside the view promise each other. A reader of what the view promises may skip it. Assumes nothing: these are definitions.
-use Rattle.std.specs.Prelude.{ℕ, zero, suc, List, [], ◌∷◌, Bool, false, cond, replicate, ltb, eqb}
+use Rattle.std.specs.Prelude.{ℕ, zero, suc, List, [], ◌∷◌, Bool, false, cond, replicate, nat_lt, ◌==◌}
 use Rattle.dossier.specs.Limits.{deepest}
 use Rattle.dossier.specs.Elements.{decision_number}
 use Rattle.dossier.specs.Bytes.{records, byte_of, record_at, joined, depth_at}
@@ -24,11 +24,11 @@ at_first = memory (replicate (suc deepest) 2) no_limit
 
 -- does record i lie below a hidden one
 unfoldable pub hidden : Memory → List ℕ → ℕ → Bool
-hidden m d i = ltb m.limit (depth_at d i)
+hidden m d i = nat_lt m.limit (depth_at d i)
 
 -- where it doesn't, does the walk answer it with permit
 unfoldable pub permitted : Memory → List ℕ → ℕ → Bool
-permitted m d i = eqb (lent_answer m.handed (depth_at d i) (byte_of d i 1) (byte_of d i 2)) (decision_number Permit)
+permitted m d i = lent_answer m.handed (depth_at d i) (byte_of d i 1) (byte_of d i 2) == decision_number Permit
 
 -- is it shown
 unfoldable pub shows : Memory → List ℕ → ℕ → Bool

@@ -1,7 +1,7 @@
 // The recipient's view of a dossier.
 #![tactic(auto)]
 
-ghost use Rattle.std.specs.Prelude.{◌≡◌, ◌+◌, ◌*◌, ◌≤◌, ◌<◌, leb, length};
+ghost use Rattle.std.specs.Prelude.{◌≡◌, ◌+◌, ◌*◌, ◌≤◌, ◌<◌, nat_le, length};
 ghost use Rattle.std.proofs.lemmas.List.Edits.{sets};
 ghost use Rattle.dossier.specs.Limits.{width};
 ghost use Rattle.dossier.specs.Bytes.{records, record_at};
@@ -53,7 +53,7 @@ fn count(d: &[u8]) -> usize
 
 // Whether so many bytes have room for the records that are shown: room for all records is enough, and then none is counted.
 fn has_room(d: &[u8], room: usize) -> bool
-    ensures { result ≡ leb (length (shown_of d.now) * width) room }
+    ensures { result ≡ nat_le (length (shown_of d.now) * width) room }
 {
     if d.len() <= room {
         return true;

@@ -1,5 +1,5 @@
 -- `capi::nv_decide` meets its contract. Assumes nothing.
-use mathlib.Core.Path.{ap, ◌∙◌}
+use Rattle.std.proofs.Common.{ap, ◌∙◌}
 use Rattle.capi.specs.Packed.{packed_answer}
 use Rattle.capi.proofs.nv_decide.Goals as goal
 

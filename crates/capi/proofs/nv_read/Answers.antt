@@ -1,5 +1,5 @@
 -- `capi::nv_read` meets its contract. Assumes nothing.
-use mathlib.Core.Path.{ap, ◌∙◌}
+use Rattle.std.proofs.Common.{ap, ◌∙◌}
 use Rattle.capi.specs.Packed.{packed_reply}
 use Rattle.capi.proofs.nv_read.Goals as goal
 

@@ -1,5 +1,5 @@
 -- `capi::pack_answer` meets its contract: each arm is given which answer it is. Assumes nothing.
-use mathlib.Core.Path.{sym, ap, ◌∙◌}
+use Rattle.std.proofs.Common.{sym, ap, ◌∙◌}
 use Rattle.capi.specs.Packed.{packed_answer}
 use Rattle.capi.proofs.pack_answer.Goals as goal
 

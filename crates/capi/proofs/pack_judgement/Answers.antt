@@ -1,6 +1,5 @@
 -- `capi::pack_judgement` meets its contract: each arm is given which judgement it is. Assumes nothing.
-use mathlib.Core.Path.{sym, ap, ◌∙◌}
-use native.Mathlib.Omega.{arith}
+use Rattle.std.proofs.Common.{sym, ap, ◌∙◌, arith}
 use Rattle.capi.specs.Packed.{packed_judgement}
 use Rattle.capi.proofs.Told.{verdict_small}
 use Rattle.capi.proofs.pack_judgement.Goals as goal

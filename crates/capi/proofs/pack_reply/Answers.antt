@@ -1,5 +1,5 @@
 -- `capi::pack_reply` meets its contract: each arm is given which reply it is. Assumes nothing.
-use mathlib.Core.Path.{sym, ap, ◌∙◌}
+use Rattle.std.proofs.Common.{sym, ap, ◌∙◌}
 use Rattle.capi.specs.Packed.{packed_reply}
 use Rattle.capi.proofs.pack_reply.Goals as goal
 

@@ -1,6 +1,5 @@
 -- `capi::pack_verdict` meets its contract: each arm is given which verdict it is. Assumes nothing.
-use mathlib.Core.Path.{sym, ap}
-use native.Mathlib.Omega.{arith}
+use Rattle.std.proofs.Common.{sym, ap, arith}
 use Rattle.capi.specs.Packed.{packed_verdict}
 use Rattle.capi.proofs.Told.{decision-small}
 use Rattle.capi.proofs.pack_verdict.Goals as goal

@@ -1,7 +1,5 @@
 -- `capi::put_part` meets its contract. Assumes nothing.
-use mathlib.Core.Path.{refl}
-use native.Mathlib.Omega.{arith}
-use borrow.Author.Tests.{eq-eqb, ne_eqb}
+use Rattle.std.proofs.Common.{refl, arith, eq-eqb, ne_eqb}
 use Rattle.capi.proofs.Parts.{whole-stored}
 use Rattle.capi.proofs.put_part.Goals as goal
 

@@ -1,5 +1,5 @@
 -- `answer` meets its contract: what is put is the text of the folder's reply. Assumes nothing.
-use native.Mathlib.Omega.{arith}
+use Rattle.std.proofs.Common.{arith}
 use Rattle.programs.proofs.Putting.{puts_there}
 use Rattle.front.proofs.Replies.{folded_short, answered}
 use Rattle.front.proofs.answer.Goals as goal

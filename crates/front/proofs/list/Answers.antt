@@ -1,8 +1,6 @@
 -- `list` meets its contract: the lister counts the rules, and those are put. Assumes nothing.
 use Rattle.front.proofs.Replies.{list_never, part-within, part_room, part-puts}
-use mathlib.Core.Path.{sym}
-use native.Mathlib.Omega.{arith}
-use lib.Seq.{length-take-le}
+use Rattle.std.proofs.Common.{sym, arith, length-take-le}
 use Rattle.front.proofs.list.Goals as goal
 
 pub overflow_mul-n : goal.overflow_mul-n

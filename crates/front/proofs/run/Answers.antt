@@ -1,7 +1,5 @@
 -- `run` meets its contract: the parts that it hands on lie within the areas. Assumes nothing.
-use mathlib.Core.Path.{sym}
-use lib.Seq.{length-take-le}
-use borrow.Author.Rules.{rules}
+use Rattle.std.proofs.Common.{sym, length-take-le, rules}
 use Rattle.front.proofs.run.Goals as goal
 
 pub slice_bounds-answer-end-2 : goal.slice_bounds-answer-end-2

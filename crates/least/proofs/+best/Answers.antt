@@ -1,5 +1,5 @@
 -- `least::best` meets its contract. Assumes nothing.
-use Rattle.std.proofs.Common.{◌≡◌, ℕ, ◌+◌, ◌≤◌, ◌<◌, List, ap, ap₂, subst, ◌∙◌, arith}
+use Rattle.std.proofs.Common.{◌≡◌, ℕ, ◌+◌, ◌<◌, ◌≤◌, List, ap, ◌∙◌, subst, ap₂, arith}
 use Rattle.dossier.specs.Limits.{most_elements}
 use Rattle.dossier.specs.Bytes.{records}
 use Rattle.dossier.specs.Reading.{Sound}

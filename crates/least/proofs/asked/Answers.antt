@@ -1,6 +1,5 @@
 -- `least::asked` meets its contract. Assumes nothing.
-use mathlib.Core.Path.{sym, ◌∙◌}
-use native.Mathlib.Omega.{arith}
+use Rattle.std.proofs.Common.{sym, ◌∙◌, arith}
 use Rattle.least.proofs.Replies.{asked-count, asked_11, asked-refused}
 use Rattle.least.proofs.asked.Goals as goal
 

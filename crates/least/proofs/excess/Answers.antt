@@ -1,5 +1,6 @@
 -- `least::excess` meets its contract. Assumes nothing.
-use borrow.Author.Tests.{le-leb, lt-leb}
+use Rattle.std.proofs.Common.{le-leb}
+use borrow.Author.Tests.{lt-leb}
 use Rattle.least.specs.Inner.{excess_of}
 use Rattle.least.proofs.excess.Goals as goal
 

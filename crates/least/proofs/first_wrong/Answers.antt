@@ -1,5 +1,5 @@
 -- `least::first_wrong` meets its contract. The invariant: the array holds what the open depths hand down, and every element passed is decided as it is set. Assumes nothing.
-use native.Mathlib.Omega.{arith}
+use Rattle.std.proofs.Common.{arith}
 use Rattle.least.proofs.Walked.{going_none, going_more, going-wrong, going_end}
 use Rattle.least.proofs.first_wrong.Goals as goal
 

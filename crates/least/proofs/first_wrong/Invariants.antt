@@ -1,5 +1,5 @@
 -- `least::first_wrong` meets its contract. The invariant: the array holds what the open depths hand down, and every element passed is decided as it is set. Assumes nothing.
-use Prim.Native.Nat.{◌-◌}
+use Rattle.std.proofs.Common.{◌-◌}
 use Rattle.dossier.specs.Bytes.{records}
 use Rattle.rules.specs.Combining.{combining_of}
 use Rattle.least.proofs.Walked.{Going}

@@ -1,5 +1,5 @@
 -- `least::fold_for` meets its contract: after what is asked the marks are written, or the refusal is handed on. Assumes nothing.
-use mathlib.Core.Path.{sym, ◌∙◌}
+use Rattle.std.proofs.Common.{sym, ◌∙◌}
 use Rattle.least.proofs.Replies.{asked-sound, folded-count, folded-refused}
 use Rattle.least.proofs.fold_for.Goals as goal
 

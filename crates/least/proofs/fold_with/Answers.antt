@@ -1,5 +1,5 @@
 -- `least::fold_with` meets its contract: the root's branch is the whole dossier. Assumes nothing.
-use mathlib.Core.Path.{ap}
+use Rattle.std.proofs.Common.{ap}
 use Rattle.least.specs.declared.Branch.{Branch}
 use Rattle.least.proofs.Whole.{whole_plan, written-folds}
 use Rattle.least.proofs.fold_with.Goals as goal

@@ -1,5 +1,5 @@
 -- `least::judge_for` meets its contract: after what is asked the marks are judged, or the refusal is handed on. Assumes nothing.
-use mathlib.Core.Path.{sym, ◌∙◌}
+use Rattle.std.proofs.Common.{sym, ◌∙◌}
 use Rattle.least.proofs.Replies.{asked-sound, judged-count, judged-refused}
 use Rattle.least.proofs.judge_for.Goals as goal
 

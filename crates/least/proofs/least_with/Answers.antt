@@ -1,5 +1,5 @@
 -- `least::least_with` meets its contract. Assumes nothing.
-use mathlib.Core.Path.{ap}
+use Rattle.std.proofs.Common.{ap}
 use Rattle.least.specs.declared.Branch.{Branch}
 use Rattle.least.proofs.least_with.Goals as goal
 

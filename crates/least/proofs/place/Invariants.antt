@@ -1,5 +1,5 @@
 -- `least::place` meets its contract. The invariant: the array holds what the open depths hand down, and the marks ahead, written to the dossier so far, are the folder's marks written to the dossier. Assumes nothing.
-use Prim.Native.Nat.{◌-◌}
+use Rattle.std.proofs.Common.{◌-◌}
 use Rattle.dossier.specs.Bytes.{records}
 use Rattle.rules.specs.Combining.{combining_of}
 use Rattle.least.proofs.Placing.{Placing}

@@ -1,10 +1,8 @@
 -- `listing::agrees` meets its contract. The invariant: before element p the rules listed so far are met, and the stack holds the open elements. Assumes nothing.
-use mathlib.Core.Path.{refl}
-use Prim.Native.Nat.{◌≤◌}
+use Rattle.std.proofs.Common.{◌≤◌, refl, arith}
 use Rattle.dossier.specs.Limits.{deepest}
 use Rattle.rules.proofs.Records.{rules-length}
 use Rattle.listing.proofs.Comparing.{meets_to, meets_off, meeting_start, meeting-more, meeting-off, end-off, end-says}
-use native.Mathlib.Omega.{arith}
 use Rattle.listing.proofs.agrees.Goals as goal
 use Rattle.listing.proofs.agrees.Goals.{In-To}
 

@@ -1,6 +1,5 @@
 -- `listing::agrees` meets its contract. The invariant: before element p the rules listed so far are met, and the stack holds the open elements. Assumes nothing.
-use Prim.Native.Nat.{◌-◌, ◌/◌}
-use lib.ListN.{length}
+use Rattle.std.proofs.Common.{◌-◌, ◌/◌, length}
 use Rattle.dossier.specs.Limits.{width}
 use Rattle.rules.specs.Rules.{rules_of}
 use Rattle.listing.specs.Inner.{planned}

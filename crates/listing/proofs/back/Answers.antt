@@ -1,7 +1,7 @@
 -- `listing::back` meets its contract. Assumes nothing.
 use Rattle.dossier.specs.Limits.{most_elements}
 use Rattle.listing.proofs.Gathering.{blank_plan}
-use native.Mathlib.Omega.{arith}
+use Rattle.std.proofs.Common.{arith}
 use Rattle.listing.proofs.back.Goals as goal
 
 pub back_with-requires : goal.back_with-requires

@@ -1,14 +1,10 @@
 -- `listing::back_with` meets its contract. Assumes nothing.
-use mathlib.Core.Path.{◌≡◌, ap, ◌∙◌}
-use Prim.Native.Nat.{ℕ}
-use mathlib.Core.List.{List}
-use lib.ListN.{length, get_or}
+use Rattle.std.proofs.Common.{◌≡◌, ℕ, List, length, get_or, ap, ◌∙◌, arith}
 use Rattle.dossier.specs.Bytes.{records}
 use Rattle.listing.specs.Inner.{Within}
 use Rattle.listing.proofs.Gathering.{gathered-length, gathered-low}
 use Rattle.listing.proofs.Comparing.{says_yes, says_no}
 use Rattle.listing.proofs.Replies.{told-marked, told_none}
-use native.Mathlib.Omega.{arith}
 use Rattle.listing.proofs.back_with.Goals as goal
 use Rattle.listing.proofs.back_with.Goals.{After-gather, Start}
 

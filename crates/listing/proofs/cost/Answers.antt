@@ -1,6 +1,5 @@
 -- `listing::cost` meets its contract. Assumes nothing.
-use mathlib.Core.Path.{sym}
-use native.Mathlib.Omega.{arith}
+use Rattle.std.proofs.Common.{sym, arith}
 use Rattle.listing.proofs.Costs.{cost-low, cost-high}
 use Rattle.listing.proofs.cost.Goals as goal
 

@@ -1,5 +1,5 @@
 -- `listing::count` meets its contract. The invariant: the sum so far, with what the elements from i on set, is what all set, and is at most two for each element passed. Assumes nothing.
-use native.Mathlib.Omega.{arith}
+use Rattle.std.proofs.Common.{arith}
 use Rattle.dossier.specs.Bytes.{records, byte_of}
 use Rattle.listing.proofs.Costs.{cost-most, costs-start, costs-first, costs-none}
 use Rattle.listing.proofs.count.Goals as goal

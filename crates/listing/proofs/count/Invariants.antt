@@ -1,7 +1,5 @@
 -- `listing::count` meets its contract. The invariant: the sum so far, with what the elements from i on set, is what all set, and is at most two for each element passed. Assumes nothing.
-use mathlib.Core.Path.{◌≡◌}
-use Prim.Native.Nat.{◌+◌, ◌*◌, ◌-◌, ◌≤◌}
-use lib.ListN.{length}
+use Rattle.std.proofs.Common.{◌≡◌, ◌+◌, ◌-◌, ◌*◌, ◌≤◌, length}
 use Rattle.listing.specs.Area.{listed_of}
 use Rattle.listing.proofs.Costs.{costs_from}
 use Rattle.listing.proofs.count.Given as goal

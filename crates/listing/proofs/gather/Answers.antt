@@ -1,11 +1,8 @@
 -- `listing::gather` meets its contract. The invariant: what is left to gather from rule i on gives the plan. Assumes nothing.
-use mathlib.Core.Path.{refl, sym, ◌∙◌}
-use Prim.Native.Nat.{◌<◌}
+use Rattle.std.proofs.Common.{◌<◌, length, sym, refl, ◌∙◌, arith, length-set}
 use native.Mathlib.Nat.{sub-zero}
-use lib.ListN.{length, length-set}
 use Rattle.dossier.specs.Bytes.{records}
 use Rattle.listing.proofs.Gathering.{gathered_next, gathered_none}
-use native.Mathlib.Omega.{arith}
 use Rattle.listing.proofs.gather.Goals as goal
 use Rattle.listing.proofs.gather.Goals.{After-slice_known-in-loop-i-1}
 

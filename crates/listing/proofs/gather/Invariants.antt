@@ -1,7 +1,5 @@
 -- `listing::gather` meets its contract. The invariant: what is left to gather from rule i on gives the plan. Assumes nothing.
-use mathlib.Core.Path.{◌≡◌}
-use Prim.Native.Nat.{◌-◌, ◌/◌}
-use lib.ListN.{length}
+use Rattle.std.proofs.Common.{◌≡◌, ◌-◌, ◌/◌, length}
 use Rattle.dossier.specs.Limits.{width}
 use Rattle.listing.specs.Inner.{gathered}
 use Rattle.listing.proofs.gather.Given as goal

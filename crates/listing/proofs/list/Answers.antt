@@ -1,9 +1,8 @@
 -- `listing::list` meets its contract. Assumes nothing.
-use mathlib.Core.Path.{sym, ◌∙◌}
+use Rattle.std.proofs.Common.{sym, ◌∙◌, arith}
 use Rattle.dossier.proofs.Sounds.{counted-sound}
 use Rattle.listing.proofs.Costs.{listed-most}
 use Rattle.listing.proofs.Replies.{list-refused, list-short, list-room, list-listed}
-use native.Mathlib.Omega.{arith}
 use Rattle.listing.proofs.list.Goals as goal
 
 pub returns-in-Refused : goal.returns-in-Refused

@@ -1,8 +1,6 @@
 -- `listing::mark_all` meets its contract. The invariant: what is left to write from element q on gives the dossier with the plan's marks. Assumes nothing.
-use mathlib.Core.Path.{refl, sym, ap, ◌∙◌}
-use Prim.Native.Nat.{ℕ, ◌*◌, ◌+◌, ◌-◌}
+use Rattle.std.proofs.Common.{ℕ, ◌+◌, ◌-◌, ◌*◌, get_or, set, sym, refl, ap, ◌∙◌, length-set}
 use native.Mathlib.Nat.{sub-zero}
-use lib.ListN.{get_or, set, length-set}
 use Rattle.dossier.specs.Limits.{width}
 use Rattle.dossier.specs.Bytes.{records, run, with_marks}
 use Rattle.dossier.proofs.RoundTrip.{mark-number}

@@ -1,7 +1,5 @@
 -- `listing::mark_all` meets its contract. The invariant: what is left to write from element q on gives the dossier with the plan's marks. Assumes nothing.
-use mathlib.Core.Path.{◌≡◌}
-use Prim.Native.Nat.{◌-◌, ◌/◌}
-use lib.ListN.{length}
+use Rattle.std.proofs.Common.{◌≡◌, ◌-◌, ◌/◌, length}
 use Rattle.dossier.specs.Limits.{width}
 use Rattle.dossier.specs.Bytes.{run, with_marks}
 use Rattle.listing.specs.Inner.{planned}

@@ -1,14 +1,11 @@
 -- `listing::open_is` meets its contract. The invariant: the rules of the open elements down to depth k are met. Assumes nothing.
-use mathlib.Core.Path.{sym, ◌∙◌}
-use Prim.Native.Nat.{◌+◌, ◌-◌, ◌<◌}
-use lib.ListN.{get_or}
+use Rattle.std.proofs.Common.{◌+◌, ◌-◌, ◌<◌, get_or, sym, ◌∙◌, arith}
 use Rattle.dossier.specs.Bytes.{records, element_at}
 use Rattle.rules.specs.Rules.{rules_of}
 use Rattle.rules.proofs.Records.{rules-length}
 use Rattle.listing.specs.Inner.{planned}
 use Rattle.listing.proofs.Counts.{own-length}
 use Rattle.listing.proofs.Comparing.{says_yes, says_no, Gone, gone_none, gone-more, gone-off, gone-end}
-use native.Mathlib.Omega.{arith}
 use Rattle.listing.proofs.open_is.Goals as goal
 use Rattle.listing.proofs.open_is.Goals.{After-cost-at, After-q-1}
 

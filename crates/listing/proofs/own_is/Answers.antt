@@ -1,14 +1,11 @@
 -- `listing::own_is` meets its contract: each mark's rules are those that it asks for. Assumes nothing.
-use Prim.Native.Nat.{◌+◌, ◌-◌}
-use mathlib.Core.List.{[], ◌∷◌}
-use lib.ListN.{drop}
+use Rattle.std.proofs.Common.{◌+◌, ◌-◌, [], ◌∷◌, drop, arith}
 use Rattle.dossier.specs.Bytes.{byte_of}
 use Rattle.rules.specs.Rules.{rules_of}
 use Rattle.listing.specs.Inner.{Starts, rule_on}
 use Rattle.listing.proofs.Own.{own-none, own-one, own-both}
 use Rattle.listing.proofs.Starts.{starts_none, starts_more, starts_front, starts_back}
 use Rattle.listing.proofs.Comparing.{says_yes, says_no, says_same, says_starts}
-use native.Mathlib.Omega.{arith}
 use Rattle.listing.proofs.own_is.Goals as goal
 
 pub returns-then-mark-eq0 : goal.returns-then-mark-eq0

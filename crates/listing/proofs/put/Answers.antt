@@ -1,11 +1,9 @@
 -- `listing::put` meets its contract. Assumes nothing.
-use mathlib.Core.Path.{sym, ap, ◌∙◌}
-use Prim.Native.Nat.{◌*◌}
+use Rattle.std.proofs.Common.{◌*◌, sym, ap, ◌∙◌, arith}
 use lib.Seq.{sets}
 use Rattle.dossier.specs.Limits.{width}
 use Rattle.listing.proofs.Own.{rule-bytes}
 use Rattle.dossier.proofs.Stores.{area-fits}
-use native.Mathlib.Omega.{arith}
 use Rattle.listing.proofs.put.Goals as goal
 
 pub returns : goal.returns

@@ -1,13 +1,10 @@
 -- `listing::put_all` meets its contract. The invariant: before element p the rules listed so far are written, and the stack holds the open elements. Assumes nothing.
-use mathlib.Core.Path.{◌≡◌, refl, ap, ◌∙◌}
-use Prim.Native.Nat.{ℕ, ◌≤◌}
-use lib.ListN.{length}
+use Rattle.std.proofs.Common.{◌≡◌, ℕ, ◌≤◌, length, refl, ap, ◌∙◌, arith}
 use lib.Seq.{sets, length-sets}
 use Rattle.dossier.specs.Limits.{deepest}
 use Rattle.rules.specs.Rules.{list_bytes}
 use Rattle.listing.specs.Inner.{mark_at, listed_with}
 use Rattle.listing.proofs.Writing.{writing_start, writing-room, writing_more, end-room, writing-end}
-use native.Mathlib.Omega.{arith}
 use Rattle.listing.proofs.put_all.Goals as goal
 use Rattle.listing.proofs.put_all.Goals.{After-slice_known-2-1, After-slice_known-in-loop-p-1}
 

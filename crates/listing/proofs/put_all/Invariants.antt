@@ -1,6 +1,5 @@
 -- `listing::put_all` meets its contract. The invariant: before element p the rules listed so far are written, and the stack holds the open elements. Assumes nothing.
-use Prim.Native.Nat.{◌-◌, ◌/◌}
-use lib.ListN.{length}
+use Rattle.std.proofs.Common.{◌-◌, ◌/◌, length}
 use Rattle.dossier.specs.Limits.{width}
 use Rattle.listing.specs.Inner.{mark_at}
 use Rattle.listing.proofs.Writing.{Writing}

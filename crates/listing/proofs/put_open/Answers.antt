@@ -1,9 +1,7 @@
 -- `listing::put_open` meets its contract. The invariant: the rules of the open elements down to depth k are written. Assumes nothing.
-use Prim.Native.Nat.{◌-◌, ◌<◌}
-use lib.ListN.{get_or}
+use Rattle.std.proofs.Common.{◌-◌, ◌<◌, get_or, arith}
 use Rattle.dossier.specs.Bytes.{records}
 use Rattle.listing.proofs.Writing.{put-long, closed_none, closed-room, closed-more, closed-end}
-use native.Mathlib.Omega.{arith}
 use Rattle.listing.proofs.put_open.Goals as goal
 use Rattle.listing.proofs.put_open.Goals.{After-q-1}
 

@@ -1,8 +1,5 @@
 -- `listing::put_own` meets its contract: each mark's rules are those of the calls that it makes. Assumes nothing.
-use mathlib.Core.Path.{◌≡◌, refl, ap, ◌∙◌}
-use Prim.Native.Nat.{ℕ, ◌+◌, ◌*◌, ◌-◌}
-use mathlib.Core.List.{List}
-use lib.ListN.{length}
+use Rattle.std.proofs.Common.{◌≡◌, ℕ, ◌+◌, ◌-◌, ◌*◌, List, length, refl, ap, ◌∙◌, arith}
 use lib.Seq.{sets}
 use Rattle.dossier.specs.Limits.{width}
 use Rattle.dossier.specs.Bytes.{byte_of}
@@ -10,7 +7,6 @@ use Rattle.rules.specs.Rules.{rule_bytes}
 use Rattle.listing.specs.Inner.{rule_on}
 use Rattle.listing.proofs.Own.{own-none, own-one, own-both}
 use Rattle.dossier.proofs.Stores.{sets_more}
-use native.Mathlib.Omega.{arith}
 use Rattle.listing.proofs.put_own.Goals as goal
 
 pub returns-then-mark-eq0 : goal.returns-then-mark-eq0

@@ -1,6 +1,6 @@
 -- `listing::told_more` meets its contract. Assumes nothing.
 use Rattle.listing.proofs.Gathering.{reach-self, reach-all}
-use native.Mathlib.Omega.{arith}
+use Rattle.std.proofs.Common.{arith}
 use Rattle.listing.proofs.told_more.Goals as goal
 
 pub returns-then-reach-eq0 : goal.returns-then-reach-eq0

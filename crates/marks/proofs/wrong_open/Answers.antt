@@ -1,6 +1,5 @@
 -- `marks::wrong_open` meets its contract: of the two tests one fails exactly where the depth can hold the value. Assumes nothing.
-use Rattle.std.proofs.Common.{◌≡◌, ℕ, Bool, true, false, not, ◌||◌, eqb, ltb, leb, refl, ltb-false, ltb-true, le-leb}
-use lib.Bits.{bit_and}
+use Rattle.std.proofs.Common.{◌≡◌, ℕ, Bool, true, false, not, ◌||◌, eqb, ltb, leb, bit_and, refl, ltb-false, ltb-true, le-leb}
 use mir.Val.{bool_byte}
 use borrow.Author.Tests.{lt-leb}
 use Rattle.marks.specs.Inner.{may_hold}

@@ -1,7 +1,5 @@
 -- `rules::applies` meets its contract. Assumes nothing.
-use Prim.Native.Nat.{ℕ, zero, suc}
-use mathlib.Core.Path.{◌≡◌, refl, ◌∙◌}
-use mathlib.Core.List.{List}
+use Rattle.std.proofs.Common.{◌≡◌, ℕ, zero, suc, List, refl, ◌∙◌}
 use Rattle.dossier.specs.Elements.{Element}
 use Rattle.dossier.specs.Below.{covers}
 use Rattle.rules.specs.Rules.{reach_of}

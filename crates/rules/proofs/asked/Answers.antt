@@ -1,6 +1,6 @@
 -- `rules::asked` meets its contract: at each `return` the replies that led there. Assumes nothing.
-use mathlib.Core.Path.{◌≡◌, sym, ◌∙◌}
-use borrow.Author.Tests.{le-ltb, lt-ltb, le-leb, lt-leb}
+use Rattle.std.proofs.Common.{◌≡◌, sym, ◌∙◌, le-ltb, lt-ltb, le-leb}
+use borrow.Author.Tests.{lt-leb}
 use Rattle.dossier.specs.Reading.{read_of}
 use Rattle.dossier.specs.declared.Reply.TheVariants.{Count}
 use Rattle.rules.specs.ReadingRules.{read_rules_of}

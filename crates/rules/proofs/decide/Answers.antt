@@ -1,5 +1,5 @@
 -- `rules::decide` meets its contract. Assumes nothing.
-use mathlib.Core.Path.{refl, sym, ap, ◌∙◌}
+use Rattle.std.proofs.Common.{sym, refl, ap, ◌∙◌}
 use Rattle.dossier.specs.declared.Answer.TheVariants.{Given}
 use Rattle.rules.specs.Inner.{effect_at}
 use Rattle.rules.proofs.Choice.{effect_decides}

@@ -1,5 +1,5 @@
 -- `rules::deciding` meets its contract. Assumes nothing.
-use mathlib.Core.Path.{sym, ◌∙◌}
+use Rattle.std.proofs.Common.{sym, ◌∙◌}
 use Rattle.rules.specs.Deciding.{deciding_of}
 use Rattle.rules.proofs.deciding.Goals as goal
 

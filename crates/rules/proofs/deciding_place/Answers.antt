@@ -1,5 +1,5 @@
 -- `rules::deciding_place` meets its contract: at each `return` what the passes over the two lists found. Assumes nothing.
-use native.Mathlib.Omega.{arith}
+use Rattle.std.proofs.Common.{arith}
 use Rattle.rules.proofs.Both.{house_settles, recipient-settles, house-first, recipient-first, first-within}
 use Rattle.rules.proofs.deciding_place.Goals as goal
 

@@ -1,7 +1,5 @@
 -- `rules::effect_at` meets its contract: the effect that stands in the rule's bytes. Assumes nothing.
-use Prim.Native.Nat.{ℕ, zero, suc}
-use mathlib.Core.Path.{◌≡◌, refl, ◌∙◌}
-use borrow.Author.Tests.{le-ltb, lt-ltb}
+use Rattle.std.proofs.Common.{◌≡◌, ℕ, zero, suc, refl, ◌∙◌, le-ltb, lt-ltb}
 use Rattle.dossier.specs.Elements.{effect_of, is}
 use Rattle.dossier.specs.declared.Decision.TheVariants.{Permit}
 use Rattle.rules.proofs.Records.{part-effect}

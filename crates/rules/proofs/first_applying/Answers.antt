@@ -1,5 +1,5 @@
 -- `rules::first_applying` meets its contract. The invariant: what is left to find from rule i on, with the first rule that was kept. Assumes nothing.
-use mathlib.Core.Path.{◌≡◌, sym, ◌∙◌}
+use Rattle.std.proofs.Common.{◌≡◌, sym, ◌∙◌}
 use Rattle.dossier.specs.Bytes.{elements_of}
 use Rattle.rules.specs.Rules.{rule_at}
 use Rattle.rules.specs.Applying.{applies}

@@ -1,5 +1,5 @@
 -- `rules::first_applying` meets its contract. The invariant: what is left to find from rule i on, with the first rule that was kept. Assumes nothing.
-use Prim.Native.Nat.{◌-◌}
+use Rattle.std.proofs.Common.{◌-◌}
 use Rattle.dossier.specs.Bytes.{elements_of}
 use Rattle.rules.specs.Combining.{combining_of}
 use Rattle.rules.proofs.Search.{Passing}

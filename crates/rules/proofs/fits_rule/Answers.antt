@@ -1,5 +1,6 @@
 -- `rules::fits_rule` meets its contract. Assumes nothing.
-use borrow.Author.Tests.{le-ltb, lt-ltb, le-leb, lt-leb}
+use Rattle.std.proofs.Common.{le-ltb, lt-ltb, le-leb}
+use borrow.Author.Tests.{lt-leb}
 use Rattle.dossier.specs.Bytes.{key_of}
 use Rattle.rules.specs.ReadingRules.{fits_of}
 use Rattle.rules.proofs.fits_rule.Goals as goal

@@ -1,5 +1,5 @@
 -- `rules::part` meets its contract. Assumes nothing.
-use mathlib.Core.Path.{refl, sym}
+use Rattle.std.proofs.Common.{sym, refl}
 use Rattle.rules.proofs.Records.{part_in, record_out}
 use Rattle.rules.proofs.part.Goals as goal
 

@@ -1,5 +1,5 @@
 -- `rules::part_at` meets its contract. Assumes nothing.
-use mathlib.Core.Path.{sym, ◌∙◌}
+use Rattle.std.proofs.Common.{sym, ◌∙◌}
 use Rattle.rules.proofs.Records.{house_record, recipient_record}
 use Rattle.rules.proofs.part_at.Goals as goal
 

@@ -1,8 +1,6 @@
 -- `rules::read_rules` meets its contract. The invariant: what is left to read from rule i on decides the reply. Assumes nothing.
-use mathlib.Core.Path.{◌≡◌, sym, ◌∙◌}
+use Rattle.std.proofs.Common.{◌≡◌, sym, ◌∙◌, arith, le-ltb, lt-ltb, eq-eqb, ne_eqb}
 use native.Mathlib.Nat.{sub-zero}
-use native.Mathlib.Omega.{arith}
-use borrow.Author.Tests.{le-ltb, lt-ltb, eq-eqb, ne_eqb}
 use Rattle.rules.specs.ReadingRules.{fits_at, read_rules_of}
 use Rattle.rules.proofs.FirstFaulty.{faulty-on, faulty-here, faulty-none, fits-here}
 use Rattle.rules.proofs.read_rules.Goals as goal

@@ -1,6 +1,5 @@
 -- `rules::read_rules` meets its contract. The invariant: what is left to read from rule i on decides the reply. Assumes nothing.
-use Prim.Native.Nat.{◌-◌, ◌≤◌}
-use mathlib.Core.Path.{◌≡◌}
+use Rattle.std.proofs.Common.{◌≡◌, ◌-◌, ◌≤◌}
 use Rattle.rules.specs.ReadingRules.{first_faulty, read_rules_of}
 use Rattle.rules.proofs.read_rules.Given as goal
 

@@ -1,9 +1,5 @@
 -- `rules::settling` meets its contract. Assumes nothing.
-use Prim.Native.Nat.{ℕ, zero, suc}
-use mathlib.Core.Path.{◌≡◌, refl}
-use native.Mathlib.Omega.{arith}
-use borrow.Author.Tests.{eq-eqb, ne_eqb, le-ltb, lt-ltb}
-use lib.Dec.{eqb, ltb}
+use Rattle.std.proofs.Common.{◌≡◌, ℕ, zero, suc, eqb, ltb, refl, arith, le-ltb, lt-ltb, eq-eqb, ne_eqb}
 use Rattle.dossier.specs.Elements.{effect_of}
 use Rattle.rules.specs.Combining.{deny_overrides, combining_of}
 use Rattle.rules.specs.Inner.{settles}

@@ -1,9 +1,5 @@
 -- `view::copy` meets its contract. The invariant: what is left to show, written from its place on, gives the whole. Assumes nothing.
-use mathlib.Core.Path.{◌≡◌, refl, sym, ap, ◌∙◌}
-use Prim.Native.Nat.{◌*◌}
-use native.Mathlib.Nat.{zero-add}
-use native.Mathlib.Omega.{arith}
-use lib.ListN.{length}
+use Rattle.std.proofs.Common.{◌≡◌, ◌*◌, length, sym, refl, ap, ◌∙◌, zero-add, arith}
 use lib.Seq.{sets, length-sets}
 use Rattle.dossier.specs.Limits.{width}
 use Rattle.view.specs.Inner.{memory, shown_of, bytes_of}

@@ -1,7 +1,5 @@
 -- `view::copy` meets its contract. The invariant: what is left to show, written from its place on, gives the whole. Assumes nothing.
-use mathlib.Core.Path.{◌≡◌}
-use Prim.Native.Nat.{◌+◌, ◌*◌, ◌-◌, ◌≤◌}
-use lib.ListN.{length}
+use Rattle.std.proofs.Common.{◌≡◌, ◌+◌, ◌-◌, ◌*◌, ◌≤◌, length}
 use lib.Seq.{sets}
 use Rattle.dossier.specs.Limits.{width}
 use Rattle.dossier.specs.Bytes.{records}

@@ -1,8 +1,5 @@
 -- `view::count` meets its contract. The invariant: what is counted and what is left to show make up the whole. Assumes nothing.
-use mathlib.Core.Path.{refl, sym, ap, ◌∙◌}
-use native.Mathlib.Nat.{zero-add}
-use native.Mathlib.Omega.{arith}
-use lib.ListN.{length}
+use Rattle.std.proofs.Common.{length, sym, refl, ap, ◌∙◌, zero-add, arith}
 use Rattle.view.specs.Inner.{memory}
 use Rattle.view.proofs.Passes.{rest-first, rest-none, counted_next}
 use Rattle.view.proofs.count.Goals as goal

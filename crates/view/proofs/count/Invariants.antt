@@ -1,7 +1,5 @@
 -- `view::count` meets its contract. The invariant: what is counted and what is left to show make up the whole. Assumes nothing.
-use mathlib.Core.Path.{◌≡◌}
-use Prim.Native.Nat.{◌+◌, ◌-◌, ◌≤◌}
-use lib.ListN.{length}
+use Rattle.std.proofs.Common.{◌≡◌, ◌+◌, ◌-◌, ◌≤◌, length}
 use Rattle.dossier.specs.Bytes.{records}
 use Rattle.view.specs.Inner.{memory, at_first, shown_of}
 use Rattle.view.proofs.Passes.{shown_rest}

@@ -1,9 +1,5 @@
 -- `view::has_room` meets its contract. Assumes nothing.
-use mathlib.Core.Path.{sym}
-use native.Mathlib.Omega.{arith}
-use borrow.Author.Tests.{le-leb}
-use Prim.Native.Nat.{◌*◌}
-use lib.ListN.{length}
+use Rattle.std.proofs.Common.{◌*◌, length, sym, arith, le-leb}
 use Rattle.view.specs.Inner.{shown_of}
 use Rattle.view.proofs.Passes.{few}
 use Rattle.view.proofs.has_room.Goals as goal

@@ -1,6 +1,6 @@
 -- `view::put` meets its contract. Assumes nothing.
 use Rattle.view.proofs.Writing.{stored}
-use native.Mathlib.Omega.{arith}
+use Rattle.std.proofs.Common.{arith}
 use Rattle.view.proofs.put.Goals as goal
 
 pub returns : goal.returns

@@ -1,9 +1,6 @@
 -- `view::put_if` meets its contract. Assumes nothing.
-use mathlib.Core.Path.{sym, ap, ◌∙◌}
-use Prim.Native.Nat.{◌*◌}
+use Rattle.std.proofs.Common.{◌*◌, sym, ap, ◌∙◌, add-zero, arith}
 use lib.Seq.{sets}
-use native.Mathlib.Nat.{add-zero}
-use native.Mathlib.Omega.{arith}
 use Rattle.dossier.specs.Limits.{width}
 use Rattle.view.proofs.Passes.{shown-bytes, hidden-bytes, shown-width}
 use Rattle.view.proofs.put_if.Goals as goal

@@ -1,6 +1,5 @@
 -- `view::view` meets its contract. Assumes nothing.
-use mathlib.Core.Path.{sym, ◌∙◌}
-use borrow.Author.Tests.{leb-true}
+use Rattle.std.proofs.Common.{sym, ◌∙◌, leb-true}
 use Rattle.view.proofs.Replied.{refused_views, short_views, copied_views}
 use Rattle.view.proofs.view.Goals as goal
 

@@ -1,7 +1,5 @@
 -- `case` is safe and ends. Assumes nothing.
-use lib.Seq.{length-take-le}
-use mathlib.Core.Path.{sym}
-use borrow.Author.Rules.{rules}
+use Rattle.std.proofs.Common.{sym, length-take-le, rules}
 use Rattle.worked.proofs.case.Goals as goal
 
 pub slice_bounds-say_case-end : goal.slice_bounds-say_case-end

@@ -1,8 +1,8 @@
 -- `lines::put_rules` meets its contract. The loop's invariant: the lines from rule i on are still to be put. Assumes nothing.
+use Rattle.std.proofs.Common.{rules}
 use native.Mathlib.Nat.{sub-zero}
 use Rattle.programs.proofs.Putting.{left-all, left-next, left-more, left-last, left-none, left-room, last-room}
 use Rattle.front.proofs.RuleLines.{lines_first, lines_none, rules_lines}
-use borrow.Author.Rules.{rules}
 use Rattle.front.proofs.lines.put_rules.Goals as goal
 
 pub loop-i-init : goal.loop-i-init

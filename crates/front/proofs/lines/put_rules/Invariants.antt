@@ -1,5 +1,5 @@
 -- `lines::put_rules` meets its contract. The loop's invariant: the lines from rule i on are still to be put. Assumes nothing.
-use Prim.Native.Nat.{◌-◌, ◌≤◌}
+use Rattle.std.proofs.Common.{◌-◌, ◌≤◌}
 use Rattle.dossier.specs.Bytes.{records}
 use Rattle.programs.proofs.Putting.{Left}
 use Rattle.front.proofs.RuleLines.{lines_from}

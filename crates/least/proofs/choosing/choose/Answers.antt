@@ -1,5 +1,5 @@
 -- `choosing::choose` meets its contract: one of two gateways, and the second with what it sees. Assumes nothing.
-use mathlib.Core.Path.{ap, ◌∙◌}
+use Rattle.std.proofs.Common.{ap, ◌∙◌}
 use Rattle.dossier.specs.Elements.{Effect}
 use Rattle.rules.specs.Combining.{deny_overrides, combining_of}
 use Rattle.least.specs.Inner.{sum_at, chosen_of}

@@ -1,9 +1,5 @@
 -- `choosing::choose_denying` meets its contract. Assumes nothing.
-use mathlib.Core.Path.{◌≡◌, ap, ◌∙◌}
-use mathlib.Core.Bool.{Bool, cond}
-use Prim.Native.Nat.{ℕ, ◌+◌, ◌≤◌}
-use native.Mathlib.Omega.{arith}
-use lib.Dec.{eqb}
+use Rattle.std.proofs.Common.{◌≡◌, ℕ, ◌+◌, ◌≤◌, Bool, cond, eqb, ap, ◌∙◌, arith}
 use Rattle.least.specs.Prices.{wrong_cost}
 use Rattle.least.specs.declared.choosing.Sums.{Sums}
 use Rattle.least.specs.Inner.{most_sum, Small}

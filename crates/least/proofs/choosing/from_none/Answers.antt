@@ -1,7 +1,5 @@
 -- `choosing::from_none` meets its contract: in each case the mark is as good as the other three. Assumes nothing.
-use mathlib.Core.Path.{◌≡◌, ap, ◌∙◌}
-use Prim.Native.Nat.{◌+◌}
-use native.Mathlib.Omega.{arith}
+use Rattle.std.proofs.Common.{◌≡◌, ◌+◌, ap, ◌∙◌, arith}
 use Rattle.dossier.specs.Elements.{m-, m+, m±}
 use Rattle.least.specs.Inner.{by_mark}
 use Rattle.least.specs.declared.choosing.Priced.{Priced}

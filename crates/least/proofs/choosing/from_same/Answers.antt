@@ -1,6 +1,5 @@
 -- `choosing::from_same` meets its contract: in each case the mark is as good as the other three. Assumes nothing.
-use mathlib.Core.Path.{◌∙◌}
-use native.Mathlib.Omega.{arith}
+use Rattle.std.proofs.Common.{◌∙◌, arith}
 use Rattle.dossier.specs.Elements.{mn, m±}
 use Rattle.least.specs.Inner.{by_mark}
 use Rattle.least.proofs.Prices.{priced_is}

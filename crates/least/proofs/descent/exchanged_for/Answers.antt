@@ -1,6 +1,5 @@
 -- `descent::exchanged_for` meets its contract: permit and deny are exchanged for permit overrides alone. Assumes nothing.
-use mathlib.Core.Path.{ap}
-use native.Mathlib.Omega.{arith}
+use Rattle.std.proofs.Common.{ap, arith}
 use Rattle.dossier.specs.Elements.{decision_number}
 use Rattle.least.proofs.Descending.{exchanged-low, exchanged-none, exchanged-other}
 use Rattle.least.proofs.descent.exchanged_for.Goals as goal

@@ -1,5 +1,5 @@
 -- `descent::unpack` meets its contract. Assumes nothing.
-use borrow.Author.Tests.{eq-eqb, ne_eqb}
+use Rattle.std.proofs.Common.{eq-eqb, ne_eqb}
 use Rattle.least.specs.Inner.{unpack_of}
 use Rattle.least.proofs.descent.unpack.Goals as goal
 

@@ -1,6 +1,5 @@
 -- `input::counted_on` meets its contract. Assumes nothing.
-use mathlib.Core.Path.{sym, ◌∙◌}
-use native.Mathlib.Omega.{arith}
+use Rattle.std.proofs.Common.{sym, ◌∙◌, arith}
 use Rattle.programs.proofs.Standing.{stands-few, stands_many}
 use Rattle.programs.proofs.input.counted_on.Goals as goal
 

@@ -1,8 +1,6 @@
 -- `input::gather` meets its contract: what is kept stands for an input, whether it ended before the most bytes or not; a short area is left. Assumes nothing.
-use mathlib.Core.Path.{refl, sym}
-use lib.Seq.{length-take-le}
+use Rattle.std.proofs.Common.{sym, refl, length-take-le, rules}
 use Rattle.programs.proofs.Standing.{gathered-all, gathered-front, unread_not}
-use borrow.Author.Rules.{rules}
 use Rattle.programs.proofs.input.gather.Goals as goal
 
 pub returns-then-kept-bytes : goal.returns-then-kept-bytes

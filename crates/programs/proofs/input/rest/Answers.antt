@@ -1,6 +1,6 @@
 -- `input::rest` meets its contract. Assumes nothing.
 use Rattle.programs.proofs.Standing.{counted_none, counted-more}
-use borrow.Author.Rules.{rules}
+use Rattle.std.proofs.Common.{rules}
 use Rattle.programs.proofs.input.rest.Goals as goal
 
 pub loop-turns-init : goal.loop-turns-init

@@ -1,6 +1,5 @@
 -- `input::rest` meets its contract. Assumes nothing.
-use mathlib.Core.Path.{◌≡◌}
-use lib.ListN.{length}
+use Rattle.std.proofs.Common.{◌≡◌, length}
 use Rattle.programs.specs.Standing.{CountedOn}
 use Rattle.programs.proofs.input.rest.Given as goal
 

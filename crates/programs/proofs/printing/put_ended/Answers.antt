@@ -1,6 +1,5 @@
 -- `printing::put_ended` meets its contract: the end follows the number. Assumes nothing.
-use mathlib.Core.Path.{refl}
-use native.Mathlib.Omega.{arith}
+use Rattle.std.proofs.Common.{refl, arith}
 use Rattle.programs.proofs.Putting.{puts_there, first-room, left-first, left-last, last-room}
 use Rattle.programs.proofs.printing.put_ended.Goals as goal
 

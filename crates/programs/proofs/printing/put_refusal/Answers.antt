@@ -1,7 +1,5 @@
 -- `printing::put_refusal` meets its contract: what stands in the line is put. Assumes nothing.
-use mathlib.Core.Path.{sym}
-use native.Mathlib.Omega.{arith}
-use lib.Seq.{length-take-le}
+use Rattle.std.proofs.Common.{sym, arith, length-take-le}
 use Rattle.programs.proofs.Putting.{puts_within, puts_front}
 use Rattle.programs.proofs.printing.put_refusal.Goals as goal
 

@@ -1,7 +1,6 @@
 -- `printing::put_word` meets its contract. The loop's invariant: what is left of the word is still to be put. Assumes nothing.
-use native.Mathlib.Omega.{arith}
+use Rattle.std.proofs.Common.{arith, rules}
 use Rattle.programs.proofs.Putting.{none-place, none-area, puts_place, puts_area, word_start, word_next, word_end}
-use borrow.Author.Rules.{rules}
 use Rattle.programs.proofs.printing.put_word.Goals as goal
 
 pub returns-then-out-at : goal.returns-then-out-at

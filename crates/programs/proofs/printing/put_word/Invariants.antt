@@ -1,6 +1,5 @@
 -- `printing::put_word` meets its contract. The loop's invariant: what is left of the word is still to be put. Assumes nothing.
-use Prim.Native.Nat.{◌+◌, ◌-◌, ◌≤◌}
-use lib.ListN.{length, drop}
+use Rattle.std.proofs.Common.{◌+◌, ◌-◌, ◌≤◌, length, drop}
 use Rattle.programs.proofs.Putting.{Left}
 use Rattle.programs.proofs.printing.put_word.Given as goal
 

@@ -1,7 +1,5 @@
 -- `making::elements` is safe and ends: the measure is `8 - i`. Assumes nothing.
-use Prim.Native.Nat.{◌-◌}
-use mathlib.Core.Path.{◌≡◌}
-use lib.ListN.{length}
+use Rattle.std.proofs.Common.{◌≡◌, ◌-◌, length}
 use Rattle.worked.proofs.making.elements.Given as goal
 
 abbrev pub invariant-loop-i : goal.invariant-loop-i

@@ -1,7 +1,5 @@
 -- `making::put_chain` is safe and ends: the measure is `length d₀ - i`. Assumes nothing.
-use Prim.Native.Nat.{◌-◌}
-use mathlib.Core.Path.{◌≡◌}
-use lib.ListN.{length}
+use Rattle.std.proofs.Common.{◌≡◌, ◌-◌, length}
 use Rattle.worked.proofs.making.put_chain.Given as goal
 
 abbrev pub invariant-loop-i : goal.invariant-loop-i

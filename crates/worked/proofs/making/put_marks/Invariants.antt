@@ -1,7 +1,5 @@
 -- `making::put_marks` is safe and ends: the measure is `length line - at`. Assumes nothing.
-use Prim.Native.Nat.{◌-◌}
-use mathlib.Core.Path.{◌≡◌}
-use lib.ListN.{length}
+use Rattle.std.proofs.Common.{◌≡◌, ◌-◌, length}
 use Rattle.worked.proofs.making.put_marks.Given as goal
 
 abbrev pub invariant-loop-at : goal.invariant-loop-at

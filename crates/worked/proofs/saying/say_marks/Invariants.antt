@@ -1,6 +1,5 @@
 -- `saying::say_marks` is safe and ends: the measure is `length d - i`. Assumes nothing.
-use Prim.Native.Nat.{◌-◌}
-use lib.ListN.{length}
+use Rattle.std.proofs.Common.{◌-◌, length}
 use Rattle.worked.proofs.saying.say_marks.Given as goal
 
 abbrev pub invariant-loop-i : goal.invariant-loop-i
