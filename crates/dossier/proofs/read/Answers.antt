@@ -31,9 +31,8 @@ here c =
 
 pub returns-then-number-ne0 : goal.returns-then-number-ne0
 returns-then-number-ne0 c =
-    let a = c in
-    let at = a.loop-i in
-    let more = a.loop-i-test.true in
+    let at = c.loop-i in
+    let more = c.loop-i-test.true in
     c.refused-then-number-ne0.ensures
     ∙ rw (here (goal.at.returns-then-number-ne0 c).After-fault-number) (sym (step_out _ _ at.i more (λ e. c.if-number-ne0.true (here (goal.at.returns-then-number-ne0 c).After-fault-number ∙ e))) ∙ at.invariant.3)
 
@@ -42,10 +41,9 @@ overflow_add-high c = omega (arith, (free _ _ _ (sym c.fault-number.ensures ∙ 
 
 pub loop-i-preserved : goal.loop-i-preserved
 loop-i-preserved c =
-    let a = c in
-    let at = a.loop-i in
-    let more = a.loop-i-test.true in
-    (omega arith, low-next _, high_read _ _ _ a.depth-depth.ensures, sym (step-on _ _ at.i more (sym (here (goal.at.loop-i-preserved c).After-fault-number) ∙ c.if-number-ne0.false)) ∙ at.invariant.3)
+    let at = c.loop-i in
+    let more = c.loop-i-test.true in
+    (omega arith, low-next _, high_read _ _ _ c.depth-depth.ensures, sym (step-on _ _ at.i more (sym (here (goal.at.loop-i-preserved c).After-fault-number) ∙ c.if-number-ne0.false)) ∙ at.invariant.3)
 
 pub returns : goal.returns
 returns c =

@@ -8,28 +8,20 @@ loop-i-init c = going_none _ _
 
 pub descend-answer-requires : goal.descend-answer-requires
 descend-answer-requires c =
-    let read = c in
-    let turn = read in
-    let sound = turn.requires in (
-      omega (arith, read.depth-depth.ensures, turn.loop-i.invariant.stands.long, sound.shallow _ turn.loop-i-test.true),
-      sound.decisions _ turn.loop-i-test.true,
+    let sound = c.requires in (
+      omega (arith, c.depth-depth.ensures, c.loop-i.invariant.stands.long, sound.shallow _ c.loop-i-test.true),
+      sound.decisions _ c.loop-i-test.true,
     )
 
 pub returns-then-answer-decision : goal.returns-then-answer-decision
 returns-then-answer-decision c =
-    let called = c in
-    let read = called in
-    let turn = read in
-    going-wrong _ _ turn.requires _ turn.loop-i-test.true _ turn.loop-i.invariant _ _
-    read.depth-depth.ensures called.descend-answer.ensures.answered _ c.decided.ensures c.if-answer-decision.true
+    going-wrong _ _ c.requires _ c.loop-i-test.true _ c.loop-i.invariant _ _
+    c.depth-depth.ensures c.descend-answer.ensures.answered _ c.decided.ensures c.if-answer-decision.true
 
 pub loop-i-preserved : goal.loop-i-preserved
 loop-i-preserved c =
-    let called = c in
-    let read = called in
-    let turn = read in
-    going_more _ _ turn.requires _ turn.loop-i-test.true _ turn.loop-i.invariant _ _
-    read.depth-depth.ensures called.descend-answer.ensures.answered _ called.descend-answer.ensures.handed c.if-answer-decision.false
+    going_more _ _ c.requires _ c.loop-i-test.true _ c.loop-i.invariant _ _
+    c.depth-depth.ensures c.descend-answer.ensures.answered _ c.descend-answer.ensures.handed c.if-answer-decision.false
 
 pub returns : goal.returns
 returns c = going_end _ _ c.requires _ _ c.loop-i-test.false c.loop-i.invariant

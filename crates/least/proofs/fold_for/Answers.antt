@@ -8,8 +8,7 @@ fold_sound-requires c = asked-sound _ _ _ (sym c.asked.ensures ∙ c.in-Count.is
 
 pub returns-in-Count : goal.returns-in-Count
 returns-in-Count c =
-    let told = c in
-    folded-count _ _ _ _ _ _ (sym told.asked.ensures ∙ told.in-Count.is) c.fold_sound.ensures
+    folded-count _ _ _ _ _ _ (sym c.asked.ensures ∙ c.in-Count.is) c.fold_sound.ensures
 
 pub returns-in-Refused : goal.returns-in-Refused
 returns-in-Refused c = folded-refused _ _ _ _ (sym c.asked.ensures ∙ c.in-Refused.is)

@@ -6,11 +6,9 @@ use Rattle.least.proofs.fold_with.Goals as goal
 
 pub place-requires : goal.place-requires
 place-requires c =
-    let s = c in
-    (s.requires.sound, whole_plan _ _ s.requires.sound _ _ s.requires.room c.best-root.ensures.planned)
+    (c.requires.sound, whole_plan _ _ c.requires.sound _ _ c.requires.room c.best-root.ensures.planned)
 
 pub returns : goal.returns
 returns c =
-    let s = c in
     let none = ap (λ (b : Branch). b.sums.none) c.best-root.ensures.summed in
-    rw none (written-folds _ _ s.requires.sound _ c.place.ensures)
+    rw none (written-folds _ _ c.requires.sound _ c.place.ensures)

@@ -7,22 +7,13 @@ loop-i-init c = placing_none _ _
 
 pub descend-requires : goal.descend-requires
 descend-requires c =
-    let above = c in
-    let read = above in
-    let turn = read in
-    let start = turn in
-    placing_fits _ _ _ start.requires.0 start.requires.1 _ turn.loop-i-test.true _ _ turn.loop-i.invariant _ read.depth-depth.ensures
+    placing_fits _ _ _ c.requires.0 c.requires.1 _ c.loop-i-test.true _ _ c.loop-i.invariant _ c.depth-depth.ensures
 
 pub loop-i-preserved : goal.loop-i-preserved
 loop-i-preserved c =
     let called = c.descend in
-    let unpacked = c in
-    let above = unpacked in
-    let read = above in
-    let turn = read in
-    let start = turn in
-    placing_more _ _ _ start.requires.0 start.requires.1 _ turn.loop-i-test.true _ _ turn.loop-i.invariant _ _ _ _
-    read.depth-depth.ensures above.from_above.ensures unpacked.unpack-mark.ensures called.ensures.handed
+    placing_more _ _ _ c.requires.0 c.requires.1 _ c.loop-i-test.true _ _ c.loop-i.invariant _ _ _ _
+    c.depth-depth.ensures c.from_above.ensures c.unpack-mark.ensures called.ensures.handed
 
 pub shape_of-d : goal.shape_of-d
 shape_of-d c = c.loop-i.invariant.long

@@ -11,12 +11,11 @@ loop-p-init c = meeting_start _ _ c.requires.sound _ _ refl
 
 pub open_is-requires : goal.open_is-requires
 open_is-requires c =
-    let s = c in
     let h = c.loop-p.invariant in record {
-      sound = s.requires.sound;
+      sound = c.requires.sound;
       stacked = h.pass.stacked;
-      told = s.requires.told;
-      room = (s.requires.room, omega (arith, h.inside, rules-length s.args.rules.now));
+      told = c.requires.told;
+      room = (c.requires.room, omega (arith, h.inside, rules-length c.args.rules.now));
     }
 
 pub returns-in_default : goal.returns-in_default
@@ -47,12 +46,11 @@ loop-p-preserved c =
 
 pub open_is-requires-2 : goal.open_is-requires-2
 open_is-requires-2 c =
-    let s = c in
     let h = c.loop-p.invariant in record {
-      sound = s.requires.sound;
+      sound = c.requires.sound;
       stacked = h.pass.stacked;
-      told = s.requires.told;
-      room = (s.requires.room, omega (arith, h.inside, rules-length s.args.rules.now));
+      told = c.requires.told;
+      room = (c.requires.room, omega (arith, h.inside, rules-length c.args.rules.now));
     }
 
 pub returns-in_default-open_is : goal.returns-in_default-open_is

@@ -6,9 +6,9 @@ use Rattle.listing.proofs.back.Goals as goal
 
 pub back_with-requires : goal.back_with-requires
 back_with-requires c =
-    let s = c in record {
-      sound = s.requires.sound;
-      told = s.requires.told;
-      room = omega (arith, s.requires.sound.few);
+    record {
+      sound = c.requires.sound;
+      told = c.requires.told;
+      room = omega (arith, c.requires.sound.few);
       blank = blank_plan most_elements;
     }

@@ -21,18 +21,17 @@ long c = ap {B = ℕ} (λ x. length x) c.gather.ensures ∙ gathered-length c.ar
 
 pub agrees-requires : goal.agrees-requires
 agrees-requires c =
-    let s = c in record {
-      sound = s.requires.sound;
-      told = s.requires.told;
-      room = omega (arith, long (goal.at.agrees-requires c).After-gather, s.requires.room);
+    record {
+      sound = c.requires.sound;
+      told = c.requires.told;
+      room = omega (arith, long (goal.at.agrees-requires c).After-gather, c.requires.room);
     }
 
 pub mark_all-requires : goal.mark_all-requires
 mark_all-requires c =
-    let s = c in
-    let a = s.args in
-    let low = gathered-low a.rules.now a.plan.now (within (goal.at.mark_all-requires c).Start) s.requires.blank in record {
-      room = omega (arith, long (goal.at.mark_all-requires c).After-gather, s.requires.room);
+    let a = c.args in
+    let low = gathered-low a.rules.now a.plan.now (within (goal.at.mark_all-requires c).Start) c.requires.blank in record {
+      room = omega (arith, long (goal.at.mark_all-requires c).After-gather, c.requires.room);
       marks = λ q. omega (arith, low q, ap (λ (x : List ℕ). get_or x q 0) c.gather.ensures);
     }
 
@@ -41,5 +40,4 @@ returns-then-agrees c = told-marked _ _ c.gather.new.plan _ (says_yes c.agrees.r
 
 pub returns : goal.returns
 returns c =
-    let s = c in
-    told_none _ _ _ c.gather.new.plan (within (goal.at.returns c).Start) s.requires.blank c.gather.ensures (says_no c.agrees.result c.if-agrees.false c.agrees.ensures) _ c.refused.ensures
+    told_none _ _ _ c.gather.new.plan (within (goal.at.returns c).Start) c.requires.blank c.gather.ensures (says_no c.agrees.result c.if-agrees.false c.agrees.ensures) _ c.refused.ensures

@@ -11,8 +11,7 @@ use Rattle.listing.proofs.open_is.Goals.{After-cost-at, After-q-1}
 
 pub loop-k-init : goal.loop-k-init
 loop-k-init c =
-    let s = c in
-    gone_none _ _ _ _ _ _ _ (omega (arith, rules-length s.args.rules.now, s.requires.room.1))
+    gone_none _ _ _ _ _ _ _ (omega (arith, rules-length c.args.rules.now, c.requires.room.1))
 
 pub bounds-stack-k : goal.bounds-stack-k
 bounds-stack-k c = omega (arith, c.requires.stacked.shallow, c.loop-k.invariant.down.low)
@@ -28,10 +27,10 @@ bounds-plan-q c = omega (arith, inside (goal.at.bounds-plan-q c).After-q-1, c.re
 
 pub own_is-requires : goal.own_is-requires
 own_is-requires c =
-    let s = c in record {
-      sound = s.requires.sound;
+    record {
+      sound = c.requires.sound;
       there = inside (goal.at.own_is-requires c).After-q-1;
-      told = s.requires.told;
+      told = c.requires.told;
     }
 
 pub returns-then-not-own_is : goal.returns-then-not-own_is
@@ -40,16 +39,14 @@ returns-then-not-own_is c = gone-off _ _ _ _ _ _ _ _ _ c.loop-k.invariant c.loop
 -- its rules are met too
 met : (c : After-cost-at) → Gone c.args.d.now (planned c.args.plan.now) c.args.stack.now c.args.top c.args.depth c.args.from (rules_of c.args.rules.now) (c.loop-k.at + c.cost-at.result) (c.loop-k.k - 1)
 met c =
-    let s = c in
     let t = c.loop-k in
-    let q = get_or s.args.stack.now (t.k - 1) 0 in
-    let e = c.cost-at.ensures ∙ sym (own-length q (element_at s.args.d.now q) (planned s.args.plan.now q)) in
+    let q = get_or c.args.stack.now (t.k - 1) 0 in
+    let e = c.cost-at.ensures ∙ sym (own-length q (element_at c.args.d.now q) (planned c.args.plan.now q)) in
     rw e (gone-more _ _ _ _ _ _ _ _ _ t.invariant c.loop-k-test.true (says_yes c.own_is.result c.if-not-own_is.false c.own_is.ensures))
 
 pub overflow_add-at : goal.overflow_add-at
 overflow_add-at c =
-    let s = c in
-    omega (arith, (met (goal.at.overflow_add-at c).After-cost-at).inside, rules-length s.args.rules.now, s.requires.told.few)
+    omega (arith, (met (goal.at.overflow_add-at c).After-cost-at).inside, rules-length c.args.rules.now, c.requires.told.few)
 
 pub loop-k-preserved : goal.loop-k-preserved
 loop-k-preserved c = met (goal.at.loop-k-preserved c).After-cost-at

@@ -15,45 +15,41 @@ returns-then-mark-eq0 c =
 
 pub returns-then-mark-le2 : goal.returns-then-mark-le2
 returns-then-mark-le2 c =
-    let s = c in
-    let a = s.args in
+    let a = c.args in
     let d = a.d.now in
     rw (own-one d a.q a.mark (omega arith) (omega arith))
-    (says_starts d a.rules.now s.requires.told a.i a.q (byte_of d a.q 1) (a.mark - 1) (s.requires.sound.decisions a.q s.requires.there) (omega arith) c.rule_is.result c.rule_is.ensures)
+    (says_starts d a.rules.now c.requires.told a.i a.q (byte_of d a.q 1) (a.mark - 1) (c.requires.sound.decisions a.q c.requires.there) (omega arith) c.rule_is.result c.rule_is.ensures)
 
 pub overflow_sub-decision : goal.overflow_sub-decision
 overflow_sub-decision c =
-    let s = c in
-    s.requires.sound.decisions s.args.q s.requires.there
+    c.requires.sound.decisions c.args.q c.requires.there
 
 pub overflow_add-i : goal.overflow_add-i
 overflow_add-i c = omega (arith, (says_yes c.rule_is-2.result c.if-rule_is.true c.rule_is-2.ensures).there, c.requires.told.few)
 
 pub returns-then-rule_is : goal.returns-then-rule_is
 returns-then-rule_is c =
-    let s = c in
-    let a = s.args in
+    let a = c.args in
     let d = a.d.now in
     let l = rules_of a.rules.now in
-    let h = s.requires.sound.decisions a.q s.requires.there in
+    let h = c.requires.sound.decisions a.q c.requires.there in
     let one = rule_on d a.q (byte_of d a.q 1) 0 ∷ [] in
     let two = rule_on d a.q (1 - byte_of d a.q 1) 1 ∷ [] in
     let first : Starts (drop a.i l) one =
     says_yes c.rule_is-2.result c.if-rule_is.true
-    (says_starts d a.rules.now s.requires.told a.i a.q (byte_of d a.q 1) 0 h (omega arith) c.rule_is-2.result c.rule_is-2.ensures) in
+    (says_starts d a.rules.now c.requires.told a.i a.q (byte_of d a.q 1) 0 h (omega arith) c.rule_is-2.result c.rule_is-2.ensures) in
     rw (own-both d a.q a.mark (omega arith) h)
     (says_same c.rule_is-then-rule_is.result (starts_more l a.i one two first) (starts_back l a.i one two)
-    (says_starts d a.rules.now s.requires.told (a.i + 1) a.q (1 - byte_of d a.q 1) 1 (omega arith) (omega arith) c.rule_is-then-rule_is.result c.rule_is-then-rule_is.ensures))
+    (says_starts d a.rules.now c.requires.told (a.i + 1) a.q (1 - byte_of d a.q 1) 1 (omega arith) (omega arith) c.rule_is-then-rule_is.result c.rule_is-then-rule_is.ensures))
 
 pub returns : goal.returns
 returns c =
-    let s = c in
-    let a = s.args in
+    let a = c.args in
     let d = a.d.now in
     let l = rules_of a.rules.now in
-    let h = s.requires.sound.decisions a.q s.requires.there in
+    let h = c.requires.sound.decisions a.q c.requires.there in
     let one = rule_on d a.q (byte_of d a.q 1) 0 ∷ [] in
     let two = rule_on d a.q (1 - byte_of d a.q 1) 1 ∷ [] in
     rw (own-both d a.q a.mark (omega arith) h)
     (λ t. says_no c.rule_is-2.result c.if-rule_is.false
-    (says_starts d a.rules.now s.requires.told a.i a.q (byte_of d a.q 1) 0 h (omega arith) c.rule_is-2.result c.rule_is-2.ensures) (starts_front l a.i one two t))
+    (says_starts d a.rules.now c.requires.told a.i a.q (byte_of d a.q 1) 0 h (omega arith) c.rule_is-2.result c.rule_is-2.ensures) (starts_front l a.i one two t))

@@ -8,9 +8,8 @@ use Rattle.listing.proofs.put.Goals as goal
 
 pub returns : goal.returns
 returns c =
-    let s = c in
-    let a = s.args in
-    let p = s.requires in
+    let a = c.args in
+    let p = c.requires in
     c.store.ensures ∙ area-fits a.out.now (a.at * width) _ (omega (arith, p.room))
     ∙ ap (sets a.out.now (a.at * width))
     (sym (rule-bytes a.d.now a.q a.effect a.reach (λ k. omega (arith, c.type_inv.d k)) p.numbers.0 p.numbers.1))

@@ -13,11 +13,10 @@ loop-p-init c = writing_start _ _ c.requires.sound _ _ refl
 
 pub put_open-at-requires : goal.put_open-at-requires
 put_open-at-requires c =
-    let s = c in
     let h = c.loop-p.invariant in record {
-      sound = s.requires.sound;
+      sound = c.requires.sound;
       stacked = h.pass.stacked;
-      room = writing-room _ _ s.requires.sound _ _ _ _ _ _ h c.loop-p-test.true _ c.depth-depth.ensures s.requires.room;
+      room = writing-room _ _ c.requires.sound _ _ _ _ _ _ h c.loop-p-test.true _ c.depth-depth.ensures c.requires.room;
     }
 
 -- no depth is past the stack
@@ -43,11 +42,10 @@ loop-p-preserved c =
 
 pub put_open-requires : goal.put_open-requires
 put_open-requires c =
-    let s = c in
     let h = c.loop-p.invariant in record {
-      sound = s.requires.sound;
+      sound = c.requires.sound;
       stacked = h.pass.stacked;
-      room = end-room _ _ s.requires.sound _ _ _ _ _ _ h c.loop-p-test.false s.requires.room;
+      room = end-room _ _ c.requires.sound _ _ _ _ _ _ h c.loop-p-test.false c.requires.room;
     }
 
 -- what the last call leaves

@@ -28,10 +28,10 @@ bounds-d-q c = omega (arith, inside (goal.at.bounds-d-q c).After-q-1)
 
 pub put_own-at-requires : goal.put_own-at-requires
 put_own-at-requires c =
-    let s = c in record {
-      sound = s.requires.sound;
+    record {
+      sound = c.requires.sound;
       there = inside (goal.at.put_own-at-requires c).After-q-1;
-      room = closed-room _ _ _ _ _ _ _ _ _ _ c.loop-k.invariant c.loop-k-test.true s.requires.room;
+      room = closed-room _ _ _ _ _ _ _ _ _ _ c.loop-k.invariant c.loop-k-test.true c.requires.room;
     }
 
 pub loop-k-preserved : goal.loop-k-preserved

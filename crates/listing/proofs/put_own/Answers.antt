@@ -16,13 +16,12 @@ returns-then-mark-eq0 c =
 
 pub put-requires : goal.put-requires
 put-requires c =
-    let s = c in
-    let a = s.args in
+    let a = c.args in
     let e = ap {B = ℕ} (λ rs. length rs) (own-one a.d.now a.q a.mark (omega arith) (omega arith)) in record {
-      sound = s.requires.sound;
-      there = s.requires.there;
-      numbers = (s.requires.sound.decisions a.q s.requires.there, omega arith);
-      room = omega (arith, e, s.requires.room);
+      sound = c.requires.sound;
+      there = c.requires.there;
+      numbers = (c.requires.sound.decisions a.q c.requires.there, omega arith);
+      room = omega (arith, e, c.requires.room);
     }
 
 pub returns-then-mark-le2 : goal.returns-then-mark-le2
@@ -32,39 +31,35 @@ returns-then-mark-le2 c =
 
 pub overflow_sub-opposite : goal.overflow_sub-opposite
 overflow_sub-opposite c =
-    let s = c in
-    s.requires.sound.decisions s.args.q s.requires.there
+    c.requires.sound.decisions c.args.q c.requires.there
 
 pub put-requires-2 : goal.put-requires-2
 put-requires-2 c =
-    let s = c in
-    let a = s.args in
-    let h = s.requires.sound.decisions a.q s.requires.there in
+    let a = c.args in
+    let h = c.requires.sound.decisions a.q c.requires.there in
     let e = ap {B = ℕ} (λ rs. length rs) (own-both a.d.now a.q a.mark (omega arith) h) in record {
-      sound = s.requires.sound;
-      there = s.requires.there;
+      sound = c.requires.sound;
+      there = c.requires.there;
       numbers = (omega (arith, h), omega arith);
-      room = omega (arith, e, s.requires.room);
+      room = omega (arith, e, c.requires.room);
     }
 
 pub put-requires-3 : goal.put-requires-3
 put-requires-3 c =
-    let s = c in
-    let a = s.args in
-    let h = s.requires.sound.decisions a.q s.requires.there in
+    let a = c.args in
+    let h = c.requires.sound.decisions a.q c.requires.there in
     let e = ap {B = ℕ} (λ rs. length rs) (own-both a.d.now a.q a.mark (omega arith) h) in record {
-      sound = s.requires.sound;
-      there = s.requires.there;
+      sound = c.requires.sound;
+      there = c.requires.there;
       numbers = (omega (arith, h), omega arith);
-      room = omega (arith, e, s.requires.room, c.put-2.auto.out);
+      room = omega (arith, e, c.requires.room, c.put-2.auto.out);
     }
 
 pub returns : goal.returns
 returns c =
-    let s = c in
-    let a = s.args in
+    let a = c.args in
     let d = a.d.now in
-    let own = own-both d a.q a.mark (omega arith) (s.requires.sound.decisions a.q s.requires.there) in
+    let own = own-both d a.q a.mark (omega arith) (c.requires.sound.decisions a.q c.requires.there) in
     let one = rule_bytes (rule_on d a.q (byte_of d a.q 1) 0) in
     let two = rule_bytes (rule_on d a.q (1 - byte_of d a.q 1) 1) in
     let next : (a.at + 1) * width ≡ a.at * width + width = omega arith in

@@ -4,9 +4,7 @@ use Rattle.marks.proofs.accepted_record.Goals as goal
 
 pub returns : goal.returns
 returns c =
-    let s = c in
-    let a = s.args in
-    let lent = c in
+    let a = c.args in
     accepted-is
     (record { handed = a.handed.now; depth = a.depth; taken = a.taken })
     a.depth
@@ -16,9 +14,9 @@ returns c =
     _
     _
     _
-    s.requires.0
-    s.requires.1
-    lent.hand_on-answer.ensures.0
-    lent.hand_on-answer.ensures.1
+    c.requires.0
+    c.requires.1
+    c.hand_on-answer.ensures.0
+    c.hand_on-answer.ensures.1
     c.clear.ensures
     c.decided.ensures

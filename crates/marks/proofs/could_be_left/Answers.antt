@@ -12,10 +12,9 @@ open_of-requires c = let t = c.counts_well in counts_sure _ _ (sym t.ensures ∙
 
 pub hands_well-requires : goal.hands_well-requires
 hands_well-requires c =
-    let s = c in
     let t = c.counts_well in
-    let few = open_few s.args.depth s.args.taken (counts_sure _ _ (sym t.ensures ∙ c.if-not-counts_well.false)) in
-    omega (arith, c.open_of.ensures, few, s.requires)
+    let few = open_few c.args.depth c.args.taken (counts_sure _ _ (sym t.ensures ∙ c.if-not-counts_well.false)) in
+    omega (arith, c.open_of.ensures, few, c.requires)
 
 pub returns : goal.returns
 returns c =

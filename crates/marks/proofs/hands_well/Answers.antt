@@ -8,10 +8,9 @@ loop-i-init c = (omega arith, gathers-first _ _)
 
 pub loop-i-preserved : goal.loop-i-preserved
 loop-i-preserved c =
-    let s = c in
     let l = c.loop-i in
     let more = c.loop-i-test.true in
-    (omega arith, l.invariant.1 ∙ gathers_open _ _ s.args.handed.now l.i _ _ (omega (arith, s.requires, more)) more c.wrong_open-wrong.ensures)
+    (omega arith, l.invariant.1 ∙ gathers_open _ _ c.args.handed.now l.i _ _ (omega (arith, c.requires, more)) more c.wrong_open-wrong.ensures)
 
 pub loop-i-2-init : goal.loop-i-2-init
 loop-i-2-init c = let l = c.loop-i in (omega arith, omega arith, l.invariant.1)

@@ -20,15 +20,12 @@ returns-then-taken-ge-MOST c = refused-is _ 3 0 c.refused_record-then-taken-ge-M
 faulted : (c : After-fault-number) → let s = c in
     c.fault-number.result ≡ fault_next (record { handed = s.args.handed.now; depth = s.args.last; taken = s.args.taken }) s.args.element.now
 faulted c =
-    let h = c in
-    let a = h.args in
-    fault-next (record { handed = a.handed.now; depth = a.last; taken = a.taken }) a.element.now h.next_low-low.ensures h.next_high-high.ensures c.depth-depth.ensures c.fault-number.ensures
+    let a = c.args in
+    fault-next (record { handed = a.handed.now; depth = a.last; taken = a.taken }) a.element.now c.next_low-low.ensures c.next_high-high.ensures c.depth-depth.ensures c.fault-number.ensures
 
 pub returns-then-number-ne0 : goal.returns-then-number-ne0
 returns-then-number-ne0 c =
-    let f = c in
-    let room = f in
-    refused-is _ _ _ c.refused_record-then-number-ne0.ensures ∙ sym (take-faulty _ _ room.if-element-ne-WIDTH.false room.if-taken-ge-MOST.false (faulted (goal.at.returns-then-number-ne0 c).After-fault-number) c.if-number-ne0.true)
+    refused-is _ _ _ c.refused_record-then-number-ne0.ensures ∙ sym (take-faulty _ _ c.if-element-ne-WIDTH.false c.if-taken-ge-MOST.false (faulted (goal.at.returns-then-number-ne0 c).After-fault-number) c.if-number-ne0.true)
 
 pub accepted_record-requires : goal.accepted_record-requires
 accepted_record-requires c = (
@@ -39,6 +36,4 @@ accepted_record-requires c = (
 
 pub returns : goal.returns
 returns c =
-    let f = c in
-    let room = f in
-    c.accepted_record.ensures ∙ sym (take-read _ _ room.if-element-ne-WIDTH.false room.if-taken-ge-MOST.false (faulted (goal.at.returns c).After-fault-number) c.if-number-ne0.false f.depth-depth.ensures)
+    c.accepted_record.ensures ∙ sym (take-read _ _ c.if-element-ne-WIDTH.false c.if-taken-ge-MOST.false (faulted (goal.at.returns c).After-fault-number) c.if-number-ne0.false c.depth-depth.ensures)

@@ -8,21 +8,15 @@ returns-then-h-count c = house_settles _ _ _ _ _ _ _ c.first_applying-h.ensures 
 
 pub returns-then-r-recipient : goal.returns-then-r-recipient
 returns-then-r-recipient c =
-    let second = c in
-    let first = second in
-    recipient-settles _ _ _ _ _ _ _ first.first_applying-h.ensures _ _ second.first_applying-r.ensures second.if-h-count.false c.if-r-recipient.true
+    recipient-settles _ _ _ _ _ _ _ c.first_applying-h.ensures _ _ c.first_applying-r.ensures c.if-h-count.false c.if-r-recipient.true
 
 pub returns-then-h-count-2 : goal.returns-then-h-count-2
 returns-then-h-count-2 c =
-    let second = c in
-    let first = second in
-    house-first _ _ _ _ _ _ _ first.first_applying-h.ensures _ _ second.first_applying-r.ensures second.if-h-count.false c.if-r-recipient.false c.if-h-count-2.true
+    house-first _ _ _ _ _ _ _ c.first_applying-h.ensures _ _ c.first_applying-r.ensures c.if-h-count.false c.if-r-recipient.false c.if-h-count-2.true
 
 pub overflow_add-result-2 : goal.overflow_add-result-2
 overflow_add-result-2 c = omega (arith, first-within _ _ _ _ _ _ c.first_applying-r.ensures)
 
 pub returns : goal.returns
 returns c =
-    let second = c in
-    let first = second in
-    recipient-first _ _ _ _ _ _ _ first.first_applying-h.ensures _ _ second.first_applying-r.ensures second.if-h-count.false c.if-r-recipient.false c.if-h-count-2.false
+    recipient-first _ _ _ _ _ _ _ c.first_applying-h.ensures _ _ c.first_applying-r.ensures c.if-h-count.false c.if-r-recipient.false c.if-h-count-2.false

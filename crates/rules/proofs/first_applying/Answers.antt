@@ -20,16 +20,14 @@ loop-i-init c = pass-first _ _ _ _
 
 pub returns-then-settling : goal.returns-then-settling
 returns-then-settling c =
-    let s = c in
-    let at = s.loop-i in
+    let at = c.loop-i in
     rw c.earlier-first.ensures
-    (pass-settled _ _ _ _ at.i at.first at.invariant s.loop-i-test.true (here (goal.at.returns-then-settling c).After-applies ∙ c.if-applies.true) (sym c.settling.ensures ∙ c.if-settling.true))
+    (pass-settled _ _ _ _ at.i at.first at.invariant c.loop-i-test.true (here (goal.at.returns-then-settling c).After-applies ∙ c.if-applies.true) (sym c.settling.ensures ∙ c.if-settling.true))
 
 pub loop-i-preserved : goal.loop-i-preserved
 loop-i-preserved c =
-    let s = c in
-    let at = s.loop-i in
-    let more = s.loop-i-test.true in
+    let at = c.loop-i in
+    let more = c.loop-i-test.true in
     let here_is = here (goal.at.loop-i-preserved c).After-applies in
     elim c.if-applies.branch [
       | then-applies+else-settling w ↦ rw (w.first-is, w.earlier-first.ensures) (pass_kept _ _ _ _ at.i at.first at.invariant more (here_is ∙ w.if-applies.true) (sym w.settling.ensures ∙ w.if-settling.false))

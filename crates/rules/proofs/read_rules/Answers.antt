@@ -27,15 +27,13 @@ here s =
 
 pub loop-i-preserved : goal.loop-i-preserved
 loop-i-preserved c =
-    let s = c in
-    let at = s.loop-i in
-    (omega arith, sym (faulty-on _ _ _ _ at.i s.loop-i-test.true (here (goal.at.loop-i-preserved c).After-fits_rule ∙ c.if-fits_rule.true)) ∙ at.invariant.1)
+    let at = c.loop-i in
+    (omega arith, sym (faulty-on _ _ _ _ at.i c.loop-i-test.true (here (goal.at.loop-i-preserved c).After-fits_rule ∙ c.if-fits_rule.true)) ∙ at.invariant.1)
 
 pub returns-else-fits_rule : goal.returns-else-fits_rule
 returns-else-fits_rule c =
-    let s = c in
-    let at = s.loop-i in
-    c.refused-else-fits_rule.ensures ∙ sym (faulty-here _ _ _ _ at.i s.loop-i-test.true (here (goal.at.returns-else-fits_rule c).After-fits_rule ∙ c.if-fits_rule.false)) ∙ at.invariant.1
+    let at = c.loop-i in
+    c.refused-else-fits_rule.ensures ∙ sym (faulty-here _ _ _ _ at.i c.loop-i-test.true (here (goal.at.returns-else-fits_rule c).After-fits_rule ∙ c.if-fits_rule.false)) ∙ at.invariant.1
 
 pub returns : goal.returns
 returns c = sym (faulty-none _ _ _ _ _ c.loop-i.invariant.0 c.loop-i-test.false) ∙ c.loop-i.invariant.1

@@ -10,8 +10,7 @@ use Rattle.view.proofs.copy.Goals.{After-loop-i}
 
 pub loop-i-init : goal.loop-i-init
 loop-i-init c =
-    let s = c in
-    (omega arith, refl, rw (zero-add, rest-first s.args.d.now), rw (rest-first s.args.d.now))
+    (omega arith, refl, rw (zero-add, rest-first c.args.d.now), rw (rest-first c.args.d.now))
 
 pub slice_bounds-shown-end : goal.slice_bounds-shown-end
 slice_bounds-shown-end c = sym c.loop-i.invariant.1
@@ -25,8 +24,7 @@ put_if-to-requires c =
     let d = c.args.d.now in
     let more = c.loop-i-test.true in
     let e = length-next (memory at.handed at.limit) d at.i more c.shown-belongs.ensures.0 c.shown-belongs.ensures.1 in
-    let s = c in
-    (more, omega (arith, at.invariant.2, e, s.requires, bytes-long d, sets-long at.out s.args.out.now (at.to * width) 0 (bytes_of (shown_rest (memory at.handed at.limit) d at.i)) (bytes_of (shown_of d)) at.invariant.3))
+    (more, omega (arith, at.invariant.2, e, c.requires, bytes-long d, sets-long at.out c.args.out.now (at.to * width) 0 (bytes_of (shown_rest (memory at.handed at.limit) d at.i)) (bytes_of (shown_of d)) at.invariant.3))
 
 pub loop-i-preserved : goal.loop-i-preserved
 loop-i-preserved c =

@@ -7,12 +7,10 @@ returns-then-depth-limit c = reads-below _ _ _ _ c.depth-depth.ensures c.if-dept
 
 pub returns-then-answer-eq-PERMIT : goal.returns-then-answer-eq-PERMIT
 returns-then-answer-eq-PERMIT c =
-    let h = c in
-    reads-permit _ _ _ _ h.depth-depth.ensures _ _ h.hand_on-answer.ensures.0 h.hand_on-answer.ensures.1
-    h.if-depth-limit.false c.if-answer-eq-PERMIT.true
+    reads-permit _ _ _ _ c.depth-depth.ensures _ _ c.hand_on-answer.ensures.0 c.hand_on-answer.ensures.1
+    c.if-depth-limit.false c.if-answer-eq-PERMIT.true
 
 pub returns : goal.returns
 returns c =
-    let h = c in
-    reads_other _ _ _ _ h.depth-depth.ensures _ _ h.hand_on-answer.ensures.0 h.hand_on-answer.ensures.1
-    h.if-depth-limit.false c.if-answer-eq-PERMIT.false
+    reads_other _ _ _ _ c.depth-depth.ensures _ _ c.hand_on-answer.ensures.0 c.hand_on-answer.ensures.1
+    c.if-depth-limit.false c.if-answer-eq-PERMIT.false

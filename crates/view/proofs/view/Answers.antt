@@ -8,14 +8,12 @@ returns-in-Refused c = refused_views _ _ (sym c.read-read.ensures ∙ c.in-Refus
 
 pub returns-then-not-has_room : goal.returns-then-not-has_room
 returns-then-not-has_room c =
-    let a = c in
-    short_views _ _ (sym a.read-read.ensures ∙ a.in_default.is) (sym a.has_room.ensures ∙ c.if-not-has_room.true) c.refused.ensures
+    short_views _ _ (sym c.read-read.ensures ∙ c.in_default.is) (sym c.has_room.ensures ∙ c.if-not-has_room.true) c.refused.ensures
 
 pub copy-n-requires : goal.copy-n-requires
 copy-n-requires c = leb-true _ _ (sym c.has_room.ensures ∙ c.if-not-has_room.false)
 
 pub returns : goal.returns
 returns c =
-    let a = c in
     let copy = c.copy-n.ensures in
-    copied_views _ _ (sym a.read-read.ensures ∙ a.in_default.is) (leb-true _ _ (sym a.has_room.ensures ∙ c.if-not-has_room.false)) copy.0 copy.1
+    copied_views _ _ (sym c.read-read.ensures ∙ c.in_default.is) (leb-true _ _ (sym c.has_room.ensures ∙ c.if-not-has_room.false)) copy.0 copy.1

@@ -5,12 +5,10 @@ use Rattle.front.proofs.lines.put_reach.Goals as goal
 
 pub returns-then-reach-eq0 : goal.returns-then-reach-eq0
 returns-then-reach-eq0 c =
-    let test = c in
-    let word = reach-self _ test.if-reach-eq0.true in
-    rw word (puts_there (rw word at test.requires) (c.put_word.ensures.place, c.put_word.ensures.written))
+    let word = reach-self _ c.if-reach-eq0.true in
+    rw word (puts_there (rw word at c.requires) (c.put_word.ensures.place, c.put_word.ensures.written))
 
 pub returns : goal.returns
 returns c =
-    let test = c in
-    let word = reach-all _ test.if-reach-eq0.false in
-    rw word (puts_there (rw word at test.requires) (c.put_word-2.ensures.place, c.put_word-2.ensures.written))
+    let word = reach-all _ c.if-reach-eq0.false in
+    rw word (puts_there (rw word at c.requires) (c.put_word-2.ensures.place, c.put_word-2.ensures.written))

@@ -7,12 +7,8 @@ use Rattle.front.proofs.lines.put_rules.Goals as goal
 
 pub loop-i-init : goal.loop-i-init
 loop-i-init c =
-    let end = c in
-    let number = end in
-    let word = number in
-    let start = word in
-    let room = rw (rules_lines _) at start.requires in
-    let left = left-next _ (left-next _ (left-next _ (left-all room) (word.put_word-named.ensures.place, word.put_word-named.ensures.written)) (number.put_number-counted.ensures.place, number.put_number-counted.ensures.written)) (end.put_word-to.ensures.place, end.put_word-to.ensures.written) in
+    let room = rw (rules_lines _) at c.requires in
+    let left = left-next _ (left-next _ (left-next _ (left-all room) (c.put_word-named.ensures.place, c.put_word-named.ensures.written)) (c.put_number-counted.ensures.place, c.put_number-counted.ensures.written)) (c.put_word-to.ensures.place, c.put_word-to.ensures.written) in
     (search rules, rw (sub-zero _) (left-all (last-room left)))
 
 pub put_rule-to-requires : goal.put_rule-to-requires
@@ -23,16 +19,11 @@ put_rule-to-requires c = (
 
 pub loop-i-preserved : goal.loop-i-preserved
 loop-i-preserved c =
-    let turn = c in
-    let left = rw (lines_first _ _ _ turn.loop-i-test.true) at turn.loop-i.invariant.1 in
+    let left = rw (lines_first _ _ _ c.loop-i-test.true) at c.loop-i.invariant.1 in
     (search rules, left-more left c.put_rule-to.ensures)
 
 pub returns : goal.returns
 returns c =
-    let end = c in
-    let number = end in
-    let word = number in
-    let start = word in
-    let room = rw (rules_lines _) at start.requires in
-    let left = left-next _ (left-next _ (left-next _ (left-all room) (word.put_word-named.ensures.place, word.put_word-named.ensures.written)) (number.put_number-counted.ensures.place, number.put_number-counted.ensures.written)) (end.put_word-to.ensures.place, end.put_word-to.ensures.written) in
+    let room = rw (rules_lines _) at c.requires in
+    let left = left-next _ (left-next _ (left-next _ (left-all room) (c.put_word-named.ensures.place, c.put_word-named.ensures.written)) (c.put_number-counted.ensures.place, c.put_number-counted.ensures.written)) (c.put_word-to.ensures.place, c.put_word-to.ensures.written) in
     rw (rules_lines _) (left-last left (left-none (rw (lines_none _ _ _ c.loop-i-test.false) at c.loop-i.invariant.1)))

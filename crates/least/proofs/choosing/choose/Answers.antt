@@ -12,8 +12,5 @@ returns-then-combining-eq0 c = rw c.if-combining-eq0.true c.choose_first.ensures
 
 pub returns : goal.returns
 returns c =
-    let asked = c in
-    let left = asked in
-    let start = left in
-    let seen = seen_effect (combining_of start.args.combining) start.args.decision _ start.requires.0 asked.exchanged_for.ensures in
-    rw (gateway_deny _ left.if-combining-eq0.false) (c.choose_denying.ensures ∙ ap (λ (e : Effect). chosen_of deny_overrides e (sum_at start.args.s)) seen)
+    let seen = seen_effect (combining_of c.args.combining) c.args.decision _ c.requires.0 c.exchanged_for.ensures in
+    rw (gateway_deny _ c.if-combining-eq0.false) (c.choose_denying.ensures ∙ ap (λ (e : Effect). chosen_of deny_overrides e (sum_at c.args.s)) seen)

@@ -26,47 +26,26 @@ overflow_add-denied c = omega (arith, wrong-le c.args.decision c.args.s c.requir
 
 pub from_none-none-requires : goal.from_none-none-requires
 from_none-none-requires c =
-    let second = c in
-    let first = second in
-    let start = first in
-    (start.requires.none, same-le c.args.decision c.args.s c.requires second.sum_if-same.ensures, other-le c.args.decision c.args.s c.requires first.sum_if-wrong.ensures c.sum_if-other.ensures)
+    (c.requires.none, same-le c.args.decision c.args.s c.requires c.sum_if-same.ensures, other-le c.args.decision c.args.s c.requires c.sum_if-wrong.ensures c.sum_if-other.ensures)
 
 pub from_same-set-requires : goal.from_same-set-requires
 from_same-set-requires c =
-    let third = c in
-    let second = third in
-    let first = second in
-    let start = first in
-    (same-le c.args.decision c.args.s c.requires second.sum_if-same.ensures, other-le c.args.decision c.args.s c.requires first.sum_if-wrong.ensures third.sum_if-other.ensures)
+    (same-le c.args.decision c.args.s c.requires c.sum_if-same.ensures, other-le c.args.decision c.args.s c.requires c.sum_if-wrong.ensures c.sum_if-other.ensures)
 
 pub from_other-opposite-requires : goal.from_other-opposite-requires
 from_other-opposite-requires c =
-    let third = c in
-    let second = third in
-    let first = second in
-    let start = first in
-    (same-le c.args.decision c.args.s c.requires second.sum_if-same.ensures, other-le c.args.decision c.args.s c.requires first.sum_if-wrong.ensures third.sum_if-other.ensures)
+    (same-le c.args.decision c.args.s c.requires c.sum_if-same.ensures, other-le c.args.decision c.args.s c.requires c.sum_if-wrong.ensures c.sum_if-other.ensures)
 
 pub pack-requires : goal.pack-requires
-pack-requires c =
-    let marked = c in
-    let other = marked in
-    let start = other in (
-      priced_mark _ _ other.from_none-none.ensures,
-      omega (arith, ap (λ (x : Priced). x.mark) marked.with_mark.ensures),
-      choice_if_mark (denies c.args.decision c.args.s c.requires) _ _ _ c.choice_if.ensures (priced_mark _ _ other.from_other-opposite.ensures) (priced_mark _ _ other.from_same-set.ensures),
-    )
+pack-requires c = (
+  priced_mark _ _ c.from_none-none.ensures,
+  omega (arith, ap (λ (x : Priced). x.mark) c.with_mark.ensures),
+  choice_if_mark (denies c.args.decision c.args.s c.requires) _ _ _ c.choice_if.ensures (priced_mark _ _ c.from_other-opposite.ensures) (priced_mark _ _ c.from_same-set.ensures),
+)
 
 pub returns : goal.returns
 returns c =
-    let chosen = c in
-    let marked = chosen in
-    let other = marked in
-    let third = other in
-    let second = third in
-    let first = second in
-    let start = first in
     c.pack.ensures
-    ∙ denying-is start.args.decision start.args.s (omega arith) other.from_none-none.ensures other.from_same-set.ensures
-    other.from_other-opposite.ensures marked.with_mark.ensures first.sum_if-wrong.ensures second.sum_if-same.ensures third.sum_if-other.ensures
-    chosen.choice_if.ensures
+    ∙ denying-is c.args.decision c.args.s (omega arith) c.from_none-none.ensures c.from_same-set.ensures
+    c.from_other-opposite.ensures c.with_mark.ensures c.sum_if-wrong.ensures c.sum_if-same.ensures c.sum_if-other.ensures
+    c.choice_if.ensures

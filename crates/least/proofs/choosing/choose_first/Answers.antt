@@ -19,36 +19,27 @@ module _ (decision : ℕ) (s : Sums) (few : Small s) where
 
 pub from_none-none-requires : goal.from_none-none-requires
 from_none-none-requires c =
-    let start = c in
-    (start.requires.none, same-le c.args.decision c.args.s c.requires c.sum_if-same.ensures, other-le c.args.decision c.args.s c.requires c.sum_if-other.ensures)
+    (c.requires.none, same-le c.args.decision c.args.s c.requires c.sum_if-same.ensures, other-le c.args.decision c.args.s c.requires c.sum_if-other.ensures)
 
 pub from_same-set-requires : goal.from_same-set-requires
 from_same-set-requires c =
-    let sums = c in
-    (same-le c.args.decision c.args.s c.requires sums.sum_if-same.ensures, other-le c.args.decision c.args.s c.requires sums.sum_if-other.ensures)
+    (same-le c.args.decision c.args.s c.requires c.sum_if-same.ensures, other-le c.args.decision c.args.s c.requires c.sum_if-other.ensures)
 
 pub from_other-opposite-requires : goal.from_other-opposite-requires
 from_other-opposite-requires c =
-    let sums = c in
-    (same-le c.args.decision c.args.s c.requires sums.sum_if-same.ensures, other-le c.args.decision c.args.s c.requires sums.sum_if-other.ensures)
+    (same-le c.args.decision c.args.s c.requires c.sum_if-same.ensures, other-le c.args.decision c.args.s c.requires c.sum_if-other.ensures)
 
 pub pack-requires : goal.pack-requires
 pack-requires c =
-    let other = c in
-    let start = other in
-    let set = priced_mark _ _ other.from_same-set.ensures in
-    let turned = priced_mark _ _ other.from_other-opposite.ensures in (
-      priced_mark _ _ other.from_none-none.ensures,
+    let set = priced_mark _ _ c.from_same-set.ensures in
+    let turned = priced_mark _ _ c.from_other-opposite.ensures in (
+      priced_mark _ _ c.from_none-none.ensures,
       choice_if_mark (denies c.args.decision c.args.s c.requires) _ _ _ c.choice_if.ensures set turned,
       choice_if_mark (denies c.args.decision c.args.s c.requires) _ _ _ c.choice_if-2.ensures turned set,
     )
 
 pub returns : goal.returns
 returns c =
-    let choices = c in
-    let other = choices in
-    let sums = other in
-    let start = sums in
     c.pack.ensures
-    ∙ chosen_is start.args.decision start.args.s other.from_none-none.ensures other.from_same-set.ensures other.from_other-opposite.ensures
-    sums.sum_if-same.ensures sums.sum_if-other.ensures choices.choice_if.ensures choices.choice_if-2.ensures
+    ∙ chosen_is c.args.decision c.args.s c.from_none-none.ensures c.from_same-set.ensures c.from_other-opposite.ensures
+    c.sum_if-same.ensures c.sum_if-other.ensures c.choice_if.ensures c.choice_if-2.ensures

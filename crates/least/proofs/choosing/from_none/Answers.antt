@@ -8,8 +8,7 @@ use Rattle.least.proofs.choosing.from_none.Goals as goal
 
 pub returns-then-none-eq0 : goal.returns-then-none-eq0
 returns-then-none-eq0 c =
-    let start = c in
-    let one : 1 ≡ 1 + start.args.none = omega arith in
+    let one : 1 ≡ 1 + c.args.none = omega arith in
     c.with_mark.ensures ∙ ap {B = Priced} (λ p. record { price = p; mark = 1 }) one ∙ priced_is (by_mark _ _ _ _) m- (omega arith)
 
 pub returns-then-none-other : goal.returns-then-none-other

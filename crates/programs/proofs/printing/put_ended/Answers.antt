@@ -5,18 +5,15 @@ use Rattle.programs.proofs.printing.put_ended.Goals as goal
 
 pub bounds-out-to : goal.bounds-out-to
 bounds-out-to c =
-    let start = c in
-    let puts = puts_there (first-room _ start.requires) (c.put_number-to.ensures.place, c.put_number-to.ensures.written) in
-    omega (arith, (last-room (left-first start.requires puts)).enough)
+    let puts = puts_there (first-room _ c.requires) (c.put_number-to.ensures.place, c.put_number-to.ensures.written) in
+    omega (arith, (last-room (left-first c.requires puts)).enough)
 
 pub overflow_add-result : goal.overflow_add-result
 overflow_add-result c =
-    let start = c in
-    let puts = puts_there (first-room _ start.requires) (c.put_number-to.ensures.place, c.put_number-to.ensures.written) in
-    omega (arith, (last-room (left-first start.requires puts)).enough)
+    let puts = puts_there (first-room _ c.requires) (c.put_number-to.ensures.place, c.put_number-to.ensures.written) in
+    omega (arith, (last-room (left-first c.requires puts)).enough)
 
 pub returns : goal.returns
 returns c =
-    let start = c in
-    let left = left-first start.requires (puts_there (first-room _ start.requires) (c.put_number-to.ensures.place, c.put_number-to.ensures.written)) in
+    let left = left-first c.requires (puts_there (first-room _ c.requires) (c.put_number-to.ensures.place, c.put_number-to.ensures.written)) in
     left-last left (record { room = last-room left; area = refl; place = refl })

@@ -4,6 +4,5 @@ use Rattle.programs.proofs.printing.put_number.Goals as goal
 
 pub returns : goal.returns
 returns c =
-    let number = c in
-    rw (← number_text number.args.n number.decimal-k.result number.decimal-k.ensures.len number.decimal-k.ensures.digits)
+    rw (← number_text c.args.n c.decimal-k.result c.decimal-k.ensures.len c.decimal-k.ensures.digits)
     c.put_word.ensures

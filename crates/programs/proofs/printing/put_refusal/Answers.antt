@@ -8,8 +8,7 @@ slice_bounds-put_word-end c = sym (length-take-le _ _ (puts_within c.write_refus
 
 pub returns : goal.returns
 returns c =
-    let line = c in
-    let puts = line.write_refusal-n.ensures in
+    let puts = c.write_refusal-n.ensures in
     let put = c.put_word.ensures in
     let text = puts_front puts in record {
       place = rw (← text) put.place;

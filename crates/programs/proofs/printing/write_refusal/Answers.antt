@@ -7,40 +7,26 @@ use Rattle.programs.proofs.printing.write_refusal.Goals as goal
 pub put_ended-numbered-requires : goal.put_ended-numbered-requires
 unfolding refusal_text
 put_ended-numbered-requires c =
-    let word = c in
-    let start = word in
-    let room = refusal-room start.ranges.number start.ranges.list start.ranges.position start.requires in
-    left-room _ (left-next _ (left-all room) (word.put_word-named.ensures.place, word.put_word-named.ensures.written))
+    let room = refusal-room c.ranges.number c.ranges.list c.ranges.position c.requires in
+    left-room _ (left-next _ (left-all room) (c.put_word-named.ensures.place, c.put_word-named.ensures.written))
 
 pub put_ended-listed-requires : goal.put_ended-listed-requires
 unfolding refusal_text
 put_ended-listed-requires c =
-    let number = c in
-    let word = number in
-    let start = word in
-    let room = refusal-room start.ranges.number start.ranges.list start.ranges.position start.requires in
-    left-room _ (left-more (left-next _ (left-all room) (word.put_word-named.ensures.place, word.put_word-named.ensures.written)) number.put_ended-numbered.ensures)
+    let room = refusal-room c.ranges.number c.ranges.list c.ranges.position c.requires in
+    left-room _ (left-more (left-next _ (left-all room) (c.put_word-named.ensures.place, c.put_word-named.ensures.written)) c.put_ended-numbered.ensures)
 
 pub put_ended-requires : goal.put_ended-requires
 unfolding refusal_text
 put_ended-requires c =
-    let list = c in
-    let number = list in
-    let word = number in
-    let start = word in
-    let room = refusal-room start.ranges.number start.ranges.list start.ranges.position start.requires in
+    let room = refusal-room c.ranges.number c.ranges.list c.ranges.position c.requires in
     last-room
-    (left-more (left-more (left-next _ (left-all room) (word.put_word-named.ensures.place, word.put_word-named.ensures.written)) number.put_ended-numbered.ensures) list.put_ended-listed.ensures)
+    (left-more (left-more (left-next _ (left-all room) (c.put_word-named.ensures.place, c.put_word-named.ensures.written)) c.put_ended-numbered.ensures) c.put_ended-listed.ensures)
 
 pub returns : goal.returns
 unfolding refusal_text
 returns c =
-    let position = c in
-    let list = position in
-    let number = list in
-    let word = number in
-    let start = word in
-    let room = refusal-room start.ranges.number start.ranges.list start.ranges.position start.requires in
+    let room = refusal-room c.ranges.number c.ranges.list c.ranges.position c.requires in
     left-last
-    (left-more (left-more (left-next _ (left-all room) (word.put_word-named.ensures.place, word.put_word-named.ensures.written)) number.put_ended-numbered.ensures) list.put_ended-listed.ensures)
-    position.put_ended.ensures
+    (left-more (left-more (left-next _ (left-all room) (c.put_word-named.ensures.place, c.put_word-named.ensures.written)) c.put_ended-numbered.ensures) c.put_ended-listed.ensures)
+    c.put_ended.ensures
