@@ -4,17 +4,17 @@ use native.Mathlib.Nat.{sub-zero}
 use Rattle.dossier.specs.Bytes.{records}
 use Rattle.listing.proofs.Gathering.{gathered_next, gathered_none}
 use Rattle.listing.proofs.gather.Goals as goal
-use Rattle.listing.proofs.gather.Goals.{After-slice_known-in-loop-i-1}
+use Rattle.listing.proofs.gather.Goals.{After-two-target}
 
 pub loop-i-init : goal.loop-i-init
 loop-i-init c = (refl, rw sub-zero)
 
 -- the plan has a place for the target
-inside : (c : After-slice_known-in-loop-i-1) → c.two-target.result < length c.loop-i.plan
+inside : (c : After-two-target) → c.two-target.result < length c.loop-i.plan
 inside c = omega (arith, c.two-target.ensures, c.requires c.loop-i.i c.loop-i-test.true, c.loop-i.invariant.0)
 
 pub bounds-plan-target-in-loop-i : goal.bounds-plan-target-in-loop-i
-bounds-plan-target-in-loop-i c = inside (goal.at.bounds-plan-target-in-loop-i c).After-slice_known-in-loop-i-1
+bounds-plan-target-in-loop-i c = inside (goal.at.bounds-plan-target-in-loop-i c).After-two-target
 
 pub loop-i-preserved : goal.loop-i-preserved
 loop-i-preserved c =

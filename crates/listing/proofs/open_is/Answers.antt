@@ -7,7 +7,7 @@ use Rattle.listing.specs.Inner.{planned}
 use Rattle.listing.proofs.Counts.{own-length}
 use Rattle.listing.proofs.Comparing.{says_yes, says_no, Gone, gone_none, gone-more, gone-off, gone-end}
 use Rattle.listing.proofs.open_is.Goals as goal
-use Rattle.listing.proofs.open_is.Goals.{After-cost-at, After-q-1}
+use Rattle.listing.proofs.open_is.Goals.{After-cost-at, In-loop-k}
 
 pub loop-k-init : goal.loop-k-init
 loop-k-init c =
@@ -17,19 +17,19 @@ pub bounds-stack-k : goal.bounds-stack-k
 bounds-stack-k c = omega (arith, c.requires.stacked.shallow, c.loop-k.invariant.down.low)
 
 -- the element that closes is an element
-inside : (c : After-q-1) → get_or c.args.stack.now (c.loop-k.k - 1) 0 < records c.args.d.now
+inside : (c : In-loop-k) → get_or c.args.stack.now (c.loop-k.k - 1) 0 < records c.args.d.now
 inside c =
     let k = c.loop-k in
     c.requires.stacked.inside (k.k - 1) (omega (arith, k.invariant.down.low, c.loop-k-test.true))
 
 pub bounds-plan-q : goal.bounds-plan-q
-bounds-plan-q c = omega (arith, inside (goal.at.bounds-plan-q c).After-q-1, c.requires.room)
+bounds-plan-q c = omega (arith, inside (goal.at.bounds-plan-q c).In-loop-k, c.requires.room)
 
 pub own_is-requires : goal.own_is-requires
 own_is-requires c =
     record {
       sound = c.requires.sound;
-      there = inside (goal.at.own_is-requires c).After-q-1;
+      there = inside (goal.at.own_is-requires c).In-loop-k;
       told = c.requires.told;
     }
 
@@ -55,4 +55,4 @@ pub returns : goal.returns
 returns c = gone-end _ _ _ _ _ _ _ _ _ c.loop-k.invariant c.loop-k-test.false
 
 pub overflow_cast-q : goal.overflow_cast-q
-overflow_cast-q c = omega (arith, inside (goal.at.overflow_cast-q c).After-q-1)
+overflow_cast-q c = omega (arith, inside (goal.at.overflow_cast-q c).In-loop-k)

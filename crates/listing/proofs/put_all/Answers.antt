@@ -6,7 +6,7 @@ use Rattle.rules.specs.Rules.{list_bytes}
 use Rattle.listing.specs.Inner.{mark_at, listed_with}
 use Rattle.listing.proofs.Writing.{writing_start, writing-room, writing_more, end-room, writing-end}
 use Rattle.listing.proofs.put_all.Goals as goal
-use Rattle.listing.proofs.put_all.Goals.{After-slice_known-2-1, After-slice_known-in-loop-p-1}
+use Rattle.listing.proofs.put_all.Goals.{After-put_open, After-depth-depth}
 
 pub loop-p-init : goal.loop-p-init
 loop-p-init c = writing_start _ _ c.requires.sound _ _ refl
@@ -20,20 +20,20 @@ put_open-at-requires c =
     }
 
 -- no depth is past the stack
-shallow : (c : After-slice_known-in-loop-p-1) → c.depth-depth.result ≤ deepest
+shallow : (c : After-depth-depth) → c.depth-depth.result ≤ deepest
 shallow c = omega (arith, c.depth-depth.ensures, c.requires.sound.shallow c.loop-p.p c.loop-p-test.true)
 
 pub overflow_cast-stack : goal.overflow_cast-stack
 overflow_cast-stack c = omega (arith, c.requires.sound.few, c.loop-p-test.true)
 
 pub offset_bounds-stack-depth : goal.offset_bounds-stack-depth
-offset_bounds-stack-depth c = omega (arith, shallow (goal.at.offset_bounds-stack-depth c).After-slice_known-in-loop-p-1)
+offset_bounds-stack-depth c = omega (arith, shallow (goal.at.offset_bounds-stack-depth c).After-depth-depth)
 
 pub bounds-stack-depth : goal.bounds-stack-depth
-bounds-stack-depth c = omega (arith, shallow (goal.at.bounds-stack-depth c).After-slice_known-in-loop-p-1)
+bounds-stack-depth c = omega (arith, shallow (goal.at.bounds-stack-depth c).After-depth-depth)
 
 pub overflow_add-top : goal.overflow_add-top
-overflow_add-top c = omega (arith, shallow (goal.at.overflow_add-top c).After-slice_known-in-loop-p-1)
+overflow_add-top c = omega (arith, shallow (goal.at.overflow_add-top c).After-depth-depth)
 
 pub loop-p-preserved : goal.loop-p-preserved
 loop-p-preserved c =
@@ -49,14 +49,14 @@ put_open-requires c =
     }
 
 -- what the last call leaves
-ended : (c : After-slice_known-2-1)
+ended : (c : After-put_open)
     → c.put_open.new.out ≡ sets c.args.out.now 0 (list_bytes (listed_with c.args.d.now (mark_at c.args.d.now)))
 ended c =
     let e = c.put_open.ensures in
     writing-end _ _ c.requires.sound _ _ _ _ _ _ c.loop-p.invariant c.loop-p-test.false _ _ (record { area = e.written; place = e.next })
 
 pub shape_of-out : goal.shape_of-out
-shape_of-out c = ap {B = ℕ} (λ x. length x) (ended (goal.at.shape_of-out c).After-slice_known-2-1) ∙ simp length-sets
+shape_of-out c = ap {B = ℕ} (λ x. length x) (ended (goal.at.shape_of-out c).After-put_open) ∙ simp length-sets
 
 pub returns : goal.returns
-returns c = ended (goal.at.returns c).After-slice_known-2-1
+returns c = ended (goal.at.returns c).After-put_open
