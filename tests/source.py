@@ -4,7 +4,7 @@ import re
 from collections import namedtuple
 
 Function = namedtuple("Function", "name public head file body end")  # body and end: from where to where in its file
-Wrong = namedtuple("Wrong", "name functions why edits")  # edits: (file, old text)
+Wrong = namedtuple("Wrong", "name functions why edits")  # edits: (file, old text, new text)
 
 HEAD = re.compile(r'^( *)(pub )?(?:pub\(crate\) )?(?:extern "C" )?fn (\w+)', re.M)
 
@@ -50,6 +50,6 @@ def read_round(path):
             file = rest
         elif word == "old":
             old = rest
-        elif word == "new":
-            found[-1].edits.append((file, old))
+        elif line.startswith("new:"):
+            found[-1].edits.append((file, old, line.removeprefix("new:").removeprefix(" ")))
     return found
