@@ -1,7 +1,7 @@
 /* Calls the library from C: folds a dossier from standard input, lists its rules, and judges the marks that it wrote.
  *
- *     rt staticlib capi
- *     cc -Iinclude examples/fold.c target/staticlib/libcapi.a -o fold-in-c
+ *     (cd crates/capi && rt lib)
+ *     cc -Iinclude examples/fold.c crates/capi/out/libcapi.a -o fold-in-c
  *     ./fold-in-c < examples/hillside.dossier
  */
 #include <nuggetvale.h>

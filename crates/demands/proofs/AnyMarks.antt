@@ -25,7 +25,7 @@ use Rattle.listing.proofs.ListedSound.{listed-sound}
 use Rattle.listing.proofs.Replies.{back-told}
 use Rattle.listing.proofs.ThereAndBack.{list_as}
 use Rattle.listing.proofs.Unique.{back_one}
-use Rattle.listing.proofs.Decides.{first-at}
+use Rattle.listing.proofs.Decides.{first_at_lem}
 use Rattle.demands.specs.Demand2.{Marking, rules_from, marked_at}
 use Rattle.demands.proofs.Requests.{told-refused}
 
@@ -82,7 +82,7 @@ module _ (d : List ℕ) (m : Marking d) where
       let rules : both_rules (list_bytes (rules_from d m)) [] ≡ rules_from d m = append-nil (rules_of (list_bytes (rules_from d m))) ∙ rules-back (rules_from d m) in
       (given-answer d (list_bytes (rules_from d m)) [] 0 i (marked_at d m i)).1 (
         record { elements = s; first = rules-sound s; second = no-rules; combining = omega arith; element = l },
-        rw rules (sym (first-at (elements_of d) m.marks s.order (m.each ∙ sym n) i (omega arith))),
+        rw rules (sym (first_at_lem (elements_of d) m.marks s.order (m.each ∙ sym n) i (omega arith))),
       )
     where
       no-rules : SoundRules d []

@@ -14,7 +14,7 @@ use Rattle.dossier.proofs.RoundTrip.{mark-back, elements-back}
 use Rattle.dossier.proofs.Sounds.{counted-sound}
 use Rattle.marks.specs.Marks.{first}
 use Rattle.marks.specs.Walking.{walked}
-use Rattle.marks.proofs.Laws.{decision-number}
+use Rattle.marks.proofs.Laws.{decision_number_lem}
 use Rattle.marks.proofs.Forests.{walk-length}
 use Rattle.listing.specs.Listing.{list_of, branches, branches_rules, children_rules, others}
 use Rattle.least.specs.Least.{count, Fold}
@@ -58,7 +58,7 @@ same_verdict (Longer n) (Longer m) = bind (same n m) (λ e. some (ap Longer e))
 same_verdict (Longer n) (Wrong i a) = none
 same_verdict (Wrong i a) Least = none
 same_verdict (Wrong i a) (Longer n) = none
-same_verdict (Wrong i a) (Wrong j b) = bind (same i j) (λ p. bind (same_by decision_number decision_of decision-number a b) (λ q. some (cc)))
+same_verdict (Wrong i a) (Wrong j b) = bind (same i j) (λ p. bind (same_by decision_number decision_of decision_number_lem a b) (λ q. some (cc)))
 
 -- ---- the test of a case
 

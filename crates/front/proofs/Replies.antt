@@ -31,9 +31,9 @@ module _ {d area out : List ℕ} (short : Short d) (areas : Areas area out) wher
       rw (sound-counted d short.sound)
       (simp (le-ltb (length area) (length (listed_of d) * width) (omega (arith, short.few, areas.wide))))
 
-  list-area : list_area d area ≡ fronted area (list_bytes (listed_of d))
+  list_area_lem : list_area d area ≡ fronted area (list_bytes (listed_of d))
   unfolding list_area
-  list-area = rw list_counts
+  list_area_lem = rw list_counts
 
   list-room : Room out 0 (rules_text (listed_of d))
   list-room =
@@ -59,7 +59,7 @@ module _ {d area out : List ℕ} (short : Short d) (areas : Areas area out) wher
     part-rules : rules_of (take (n * width) written) ≡ listed_of d
     part-rules =
         ap rules_of
-        (ap (take (n * width)) (w ∙ list-area)
+        (ap (take (n * width)) (w ∙ list_area_lem)
         ∙ take_at (list_bytes (listed_of d)) (drop (length (list_bytes (listed_of d))) area) (n * width) (omega (arith, list_length (listed_of d), number)))
         ∙ rules-back (listed_of d)
 

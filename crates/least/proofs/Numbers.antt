@@ -3,7 +3,7 @@ use Rattle.std.proofs.Common.{◌≡◌, ℕ, ◌↔◌, List, ◌∷◌, get_or
 use mathlib.Core.List.{tail-eq_of_cons-eq}
 use Rattle.dossier.specs.Elements.{Mark, Element, decision_number, decision_of}
 use Rattle.dossier.specs.declared.Decision.{Decision}
-use Rattle.marks.proofs.Laws.{decision-number}
+use Rattle.marks.proofs.Laws.{decision_number_lem}
 use Rattle.least.specs.Least.{Answers, count}
 use Rattle.least.specs.Judging.{Holds, verdict_numbers, report_numbers, Judges}
 use Rattle.least.specs.declared.Report.{Report}
@@ -14,7 +14,7 @@ use Rattle.least.proofs.Verdicts.{verdict-unique}
 -- ---- numbers tell verdicts apart
 
 decision-one : (a b : Decision) → decision_number a ≡ decision_number b → a ≡ b
-decision-one a b e = sym (decision-number a) ∙ ap decision_of e ∙ decision-number b
+decision-one a b e = sym (decision_number_lem a) ∙ ap decision_of e ∙ decision_number_lem b
 
 at : (k : ℕ) (v w : Verdict) → verdict_numbers v ≡ verdict_numbers w → get_or (verdict_numbers v) k 0 ≡ get_or (verdict_numbers w) k 0
 at k v w e = ap (λ (l : List ℕ). get_or l k 0) e

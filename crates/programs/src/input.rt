@@ -27,7 +27,7 @@ pub fn counted_on(most: u16, total: usize, more: usize) -> usize
     total + more
 }
 
-// Reads on into the room for what lies past the kept bytes: how many bytes came, 0 at the end or where the read fails.
+// Reads on into the room for what lies past the kept bytes: how many bytes came, fewer than it holds at the end or where a read fails.
 fn past(fd: i32, scratch: &mut [u8]) -> usize {
     io::read_full(fd, scratch)
 }
@@ -45,6 +45,9 @@ fn rest(fd: i32, most: u16, scratch: &mut [u8]) -> usize
             return total;
         }
         total = counted_on(most, total, n);
+        if n < scratch.len() {
+            return total;
+        }
         turns -= 1;
     }
     total

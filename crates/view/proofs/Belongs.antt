@@ -9,7 +9,7 @@ use Rattle.dossier.specs.declared.Decision.{Decision}
 use Rattle.dossier.specs.declared.Decision.TheVariants.{Permit}
 use Rattle.marks.specs.Marks.{first}
 use Rattle.marks.specs.Walking.{walk}
-use Rattle.marks.proofs.Laws.{decision-number}
+use Rattle.marks.proofs.Laws.{decision_number_lem}
 use Rattle.view.specs.View.{Keeps, done, kept, left, IsView}
 use Rattle.view.specs.Inner.{Memory, at_first, no_limit, shows, after, shown_from, shown_of}
 use Rattle.view.proofs.Keeping.{keeps_iff, keeps_shift}
@@ -65,7 +65,7 @@ module _ (d : List ℕ) (i n : ℕ) (m : Memory) (st : List Decision) (at : Sees
           (left (hidden-first m.limit (element_at d i) es given rest h)
           (keeps_shift (keeps_iff (hidden-rest m.limit (element_at d i) es given rest h) (ih m (sees_hidden d i at s there h)))))
       go (let-in h e) =
-          let p : given ≡ Permit = sym (decision-number given) ∙ ap decision_of (sym (sees-answer d i at s there h) ∙ e) in
+          let p : given ≡ Permit = sym (decision_number_lem given) ∙ ap decision_of (sym (sees-answer d i at s there h) ∙ e) in
           by (lets_in m d i h e)
           (kept (permitted-first m.limit (element_at d i) es given rest h p)
           (keeps_shift (keeps_iff

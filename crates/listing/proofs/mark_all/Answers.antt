@@ -3,7 +3,7 @@ use Rattle.std.proofs.Common.{ℕ, ◌+◌, ◌-◌, ◌*◌, get_or, set, sym, 
 use native.Mathlib.Nat.{sub-zero}
 use Rattle.dossier.specs.Limits.{width}
 use Rattle.dossier.specs.Bytes.{records, run, with_marks}
-use Rattle.dossier.proofs.RoundTrip.{mark-number}
+use Rattle.dossier.proofs.RoundTrip.{mark_number_lem}
 use Rattle.listing.specs.Inner.{planned}
 use Rattle.listing.proofs.Gathering.{with_first, with_none}
 use Rattle.listing.proofs.mark_all.Goals as goal
@@ -18,7 +18,7 @@ loop-q-preserved c =
     let plan = c.args.plan.now in
     let m = planned plan in (
       length-set t.d (t.q * width + 2) (get_or plan t.q 0) ∙ t.invariant.0,
-      ap (λ (x : ℕ). with_marks (set t.d (t.q * width + 2) x) (t.q + 1) (run m (t.q + 1) (n - (t.q + 1)))) (sym (mark-number (get_or plan t.q 0) (c.requires.marks t.q)))
+      ap (λ (x : ℕ). with_marks (set t.d (t.q * width + 2) x) (t.q + 1) (run m (t.q + 1) (n - (t.q + 1)))) (sym (mark_number_lem (get_or plan t.q 0) (c.requires.marks t.q)))
           ∙ sym (with_first t.d m t.q n c.loop-q-test.true) ∙ t.invariant.1,
     )
 

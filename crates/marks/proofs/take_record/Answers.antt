@@ -2,7 +2,7 @@
 use Rattle.std.proofs.Common.{◌≡◌, sym, ◌∙◌}
 use Rattle.dossier.proofs.Sounds.{free}
 use Rattle.marks.specs.declared.Walk.{Walk}
-use Rattle.marks.proofs.Takes.{fault_next, fault-next, take_short, take-full, take-faulty, take-read, refused-is}
+use Rattle.marks.proofs.Takes.{fault_next, fault_next_lem, take_short, take-full, take-faulty, take-read, refused-is}
 use Rattle.marks.proofs.take_record.Goals as goal
 use Rattle.marks.proofs.take_record.Goals.{After-fault-number, Start}
 
@@ -21,7 +21,7 @@ faulted : (c : After-fault-number) → let s = c in
     c.fault-number.result ≡ fault_next (record { handed = s.args.handed.now; depth = s.args.last; taken = s.args.taken }) s.args.element.now
 faulted c =
     let a = c.args in
-    fault-next (record { handed = a.handed.now; depth = a.last; taken = a.taken }) a.element.now c.next_low-low.ensures c.next_high-high.ensures c.depth-depth.ensures c.fault-number.ensures
+    fault_next_lem (record { handed = a.handed.now; depth = a.last; taken = a.taken }) a.element.now c.next_low-low.ensures c.next_high-high.ensures c.depth-depth.ensures c.fault-number.ensures
 
 pub returns-then-number-ne0 : goal.returns-then-number-ne0
 returns-then-number-ne0 c =

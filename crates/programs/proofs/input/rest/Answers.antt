@@ -8,3 +8,6 @@ loop-turns-init c = (search rules, counted_none)
 
 pub loop-turns-preserved : goal.loop-turns-preserved
 loop-turns-preserved c = (search rules, counted-more _ _ _ c.loop-turns.invariant.1 c.counted_on-total.ensures)
+
+pub returns-then-n-scratch : goal.returns-then-n-scratch
+returns-then-n-scratch c = counted-more _ _ _ c.loop-turns.invariant.1 c.counted_on-total.ensures
