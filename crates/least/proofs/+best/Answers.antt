@@ -39,7 +39,7 @@ pub best-b-requires : goal.best-b-requires
 best-b-requires t c =
     let ready = c.requires in
     let there = c.loop-p-test.true in
-    let deep = deeper c.depth-depth.ensures c.depth.ensures c.if-depth.false in
+    let deep = deeper c.depth-in-loop-p.ensures c.depth.ensures c.if-depth.false in
     let shallow = ready.sound.shallow c.args.at ready.there in
     let kept = c.loop-p.invariant.1.long in
     (omega arith, record { sound = ready.sound; there = there; enough = omega arith; room = omega arith })
@@ -56,7 +56,7 @@ summed-next : (t : ℕ) (c : After-best-b t)
 summed-next t c =
     rw c.best-b.ensures.summed
     (turn _ _ _ _ _ _ c.loop-p.invariant.0 c.loop-p-test.true
-    (deeper c.depth-depth.ensures c.depth.ensures c.if-depth.false))
+    (deeper c.depth-in-loop-p.ensures c.depth.ensures c.if-depth.false))
 
 pub plus-sums-requires : goal.plus-sums-requires
 plus-sums-requires t c = small _ _ _ _ _ _ (summed-next t (goal.at.plus-sums-requires t c).After-best-b) (few-in c.requires.sound)
@@ -86,7 +86,7 @@ returns t c =
     let over : (sum_at c.loop-p.sums ≡ sums (gateway_of G) wrong_cost (forest_below (element_for G d) (records d) at)) × (c.loop-p.p ≡ (branch_of G (element_for G d) (records d) at).next) =
     elim c.loop-p-test.branch [
       | else-loop-p-test w ↦ over-end _ _ _ _ _ _ inv.0 w.loop-p-test.false
-      | then-loop-p-test+then-depth w ↦ over-out _ _ _ _ _ _ inv.0 w.loop-p-test.true (no_deeper c.depth-depth.ensures w.depth.ensures w.if-depth.true)
+      | then-loop-p-test+then-depth w ↦ over-out _ _ _ _ _ _ inv.0 w.loop-p-test.true (no_deeper w.depth-in-loop-p.ensures w.depth.ensures w.if-depth.true)
     ] in
     let chosen = c.choose-chosen.ensures ∙ ap (chosen_of G (element_for G d at).decision) over.0 in
     let planned = subst (λ (n : ℕ). Planned G (element_for G d) (records d) (at + 1) n c.args.plan.now c.loop-p.plan) over.1 inv.1 in record {
