@@ -15,8 +15,5 @@ loop-i-preserved c =
     placing_more _ _ _ c.requires.0 c.requires.1 _ c.loop-i-test.true _ _ c.loop-i.invariant _ _ _ _
     c.depth-depth.ensures c.from_above.ensures c.unpack-mark.ensures called.ensures.handed
 
-pub shape_of-d : goal.shape_of-d
-shape_of-d c = c.loop-i.invariant.long
-
 pub returns : goal.returns
 returns c = placing_end _ _ _ _ _ c.requires.0 c.loop-i-test.false c.loop-i.invariant

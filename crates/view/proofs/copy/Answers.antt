@@ -15,9 +15,6 @@ loop-i-init c =
 pub slice_bounds-shown-end : goal.slice_bounds-shown-end
 slice_bounds-shown-end c = sym c.loop-i.invariant.1
 
-pub shown-belongs-requires : goal.shown-belongs-requires
-shown-belongs-requires c = c.loop-i-test.true
-
 pub put_if-to-requires : goal.put_if-to-requires
 put_if-to-requires c =
     let at = c.loop-i in

@@ -11,9 +11,6 @@ loop-i-init c = (omega arith, omega arith, refl, rw (zero-add, rest-first c.args
 pub slice_bounds-shown-end : goal.slice_bounds-shown-end
 slice_bounds-shown-end c = sym c.loop-i.invariant.2
 
-pub shown-requires : goal.shown-requires
-shown-requires c = c.loop-i-test.true
-
 pub loop-i-preserved : goal.loop-i-preserved
 loop-i-preserved c =
     let at = c.loop-i in
