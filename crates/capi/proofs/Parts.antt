@@ -1,24 +1,13 @@
 -- The deciding rule's bytes as they are copied: all eight, or none. Assumes nothing.
-use Rattle.std.proofs.Common.{◌≡◌, ℕ, ◌⊎◌, List, [], ◌∷◌, length, drop, sym, refl, ap, ◌∙◌, inl, inr, append-nil, arith, eq-eqb}
-use lib.Seq.{drop-length}
+use Rattle.std.proofs.Common.{◌≡◌, ℕ, ◌⊎◌, List, [], ◌∷◌, length, sym, refl, ◌∙◌, inl, inr, arith, eq-eqb, Result, Ok, Err}
 use Rattle.dossier.specs.Limits.{width}
-use Rattle.dossier.specs.Bytes.{run, byte_of}
-use Rattle.dossier.specs.Replies.{area_after}
-use Rattle.dossier.specs.declared.Decision.TheVariants.{Deny, Permit, None}
-use Rattle.dossier.specs.declared.Answer.{Answer}
-use Rattle.dossier.specs.declared.Answer.TheVariants.{Given, Refused}
-use Rattle.dossier.proofs.Stores.{area-fits, sets-front}
-use Rattle.dossier.proofs.Widths.{bytes_alone}
+use Rattle.dossier.specs.declared.elements.Decision.TheVariants.{Deny, Permit, None}
 use Rattle.rules.specs.Deciding.{decide_of, deciding_of}
 use Rattle.rules.proofs.Parts.{Silent, none, refused, part-empty, part-eight}
 use Rattle.capi.specs.Packed.{part_after}
 use Rattle.capi.specs.Inner.{if_whole}
-
--- a whole record that is stored into as many bytes is all that stands there
-pub whole-stored : (part was : List ℕ) {new : List ℕ} → new ≡ area_after was 0 (run (byte_of part 0) 0 width) → length part ≡ width → length was ≡ width → new ≡ part
-whole-stored part was e w l =
-    let rest : drop (length part) was ≡ [] = ap (λ (n : ℕ). drop n was) (w ∙ sym l) ∙ drop-length was in
-    e ∙ ap (area_after was 0) (bytes_alone width part w) ∙ area-fits was 0 part (omega arith) ∙ sets-front was part (omega arith) ∙ rw (rest, append-nil)
+use Rattle.dossier.specs.declared.elements.Decision.{Decision}
+use Rattle.dossier.specs.declared.Refusal.{Refusal}
 
 -- the deciding rule's bytes are none, or a record's
 deciding-part : (d house recipient : List ℕ) (c i : ℕ) → (deciding_of d house recipient c i ≡ []) ⊎ (length (deciding_of d house recipient c i) ≡ width)
@@ -27,11 +16,11 @@ deciding-part d house recipient c i = go (decide_of d house recipient c i) refl
     empty : Silent (decide_of d house recipient c i) → (deciding_of d house recipient c i ≡ []) ⊎ (length (deciding_of d house recipient c i) ≡ width)
     empty s = inl ((part-empty d house recipient c i).1 s)
 
-    go : (a : Answer) → decide_of d house recipient c i ≡ a → (deciding_of d house recipient c i ≡ []) ⊎ (length (deciding_of d house recipient c i) ≡ width)
-    go (Refused f) e = empty (rw e (refused f))
-    go (Given None) e = empty (rw e none)
-    go (Given Deny) e = inr (part-eight d house recipient c i Deny e (λ q. let z : ◌≡◌ {A = ℕ} 0 1 = cc in omega arith))
-    go (Given Permit) e = inr (part-eight d house recipient c i Permit e (λ q. let z : ◌≡◌ {A = ℕ} 0 1 = cc in omega arith))
+    go : (a : Result Decision Refusal) → decide_of d house recipient c i ≡ a → (deciding_of d house recipient c i ≡ []) ⊎ (length (deciding_of d house recipient c i) ≡ width)
+    go (Err f) e = empty (rw e (refused f))
+    go (Ok None) e = empty (rw e none)
+    go (Ok Deny) e = inr (part-eight d house recipient c i Deny e (λ q. let z : ◌≡◌ {A = ℕ} 0 1 = cc in omega arith))
+    go (Ok Permit) e = inr (part-eight d house recipient c i Permit e (λ q. let z : ◌≡◌ {A = ℕ} 0 1 = cc in omega arith))
 
 -- so the number of bytes that are copied is replied, and they are what the area then holds, or it is as it was
 all_or_none : (part was : List ℕ) → (part ≡ []) ⊎ (length part ≡ width)

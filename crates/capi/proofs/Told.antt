@@ -1,18 +1,12 @@
 -- What is packed can be told apart: a refusal's number is 2^63 or more and a success's is less, and two replies that fit have one number only where they are one reply. Assumes nothing.
-use Rattle.std.proofs.Common.{◌≡◌, ℕ, ◌+◌, ◌*◌, ◌/◌, ◌%◌, ◌<◌, ◌≤◌, sym, refl, ap, ◌∙◌, mod-eq_of_lt, arith}
+use Rattle.std.proofs.Common.{◌≡◌, ℕ, ◌+◌, ◌*◌, ◌/◌, ◌%◌, ◌<◌, ◌≤◌, sym, refl, ap, ◌∙◌, mod-eq_of_lt, arith, Result, Ok, Err}
 use Rattle.dossier.specs.Elements.{decision_number}
-use Rattle.dossier.specs.declared.Decision.{Decision}
-use Rattle.dossier.specs.declared.Decision.TheVariants.{Deny, Permit, None}
+use Rattle.dossier.specs.declared.elements.Decision.{Decision}
+use Rattle.dossier.specs.declared.elements.Decision.TheVariants.{Deny, Permit, None}
 use Rattle.dossier.specs.declared.Refusal.{Refusal}
-use Rattle.dossier.specs.declared.Reply.{Reply}
-use Rattle.dossier.specs.declared.Reply.TheVariants.{Count, Refused}
-use Rattle.dossier.specs.declared.Answer.{Answer}
-use Rattle.dossier.specs.declared.Answer.TheVariants as answer
 use Rattle.least.specs.declared.Verdict.{Verdict}
 use Rattle.least.specs.declared.Verdict.TheVariants as verdict
 use Rattle.least.specs.declared.Report.{Report}
-use Rattle.least.specs.declared.Judgement.{Judgement}
-use Rattle.least.specs.declared.Judgement.TheVariants as judgement
 use Rattle.capi.specs.Packed.{packed_refusal, packed_reply, packed_answer, packed_verdict, packed_judgement}
 
 -- ---- what fits its place in the number, so that nothing of it is lost
@@ -22,22 +16,22 @@ pub record SmallRefusal (f : Refusal) : Type 0 where
   pub list : f.list < 256
   pub position : f.position < 4294967296
 
-abbrev pub FitsReply : Reply → Type 0
-FitsReply (Count n) = n < 9223372036854775808
-FitsReply (Refused f) = SmallRefusal f
+abbrev pub FitsReply : Result ℕ Refusal → Type 0
+FitsReply (Ok n) = n < 9223372036854775808
+FitsReply (Err f) = SmallRefusal f
 
-abbrev pub FitsAnswer : Answer → Type 0
-FitsAnswer (answer.Given v) = Unit {0}
-FitsAnswer (answer.Refused f) = SmallRefusal f
+abbrev pub FitsAnswer : Result Decision Refusal → Type 0
+FitsAnswer (Ok v) = Unit {0}
+FitsAnswer (Err f) = SmallRefusal f
 
 abbrev pub FitsVerdict : Verdict → Type 0
 FitsVerdict verdict.Least = Unit {0}
 FitsVerdict (verdict.Longer n) = n < 65536
 FitsVerdict (verdict.Wrong i a) = i < 65536
 
-abbrev pub FitsJudgement : Judgement → Type 0
-FitsJudgement (judgement.Reported r) = (r.count < 65536) × FitsVerdict r.verdict
-FitsJudgement (judgement.Refused f) = SmallRefusal f
+abbrev pub FitsJudgement : Result Report Refusal → Type 0
+FitsJudgement (Ok r) = (r.count < 65536) × FitsVerdict r.verdict
+FitsJudgement (Err f) = SmallRefusal f
 
 -- ---- a refusal's number, and a success's
 
@@ -54,7 +48,7 @@ verdict_small verdict.Least = omega arith
 verdict_small (verdict.Longer n) = omega arith
 verdict_small (verdict.Wrong i a) = omega (arith, decision-small a)
 
-report_low : (r : Report) → packed_judgement (judgement.Reported r) < 9223372036854775808
+report_low : (r : Report) → packed_judgement (Ok r) < 9223372036854775808
 report_low r = omega (arith, verdict_small r.verdict)
 
 -- ---- what is read from the number is what was packed
@@ -88,17 +82,17 @@ decision-one None Deny e = absurd (omega arith)
 decision-one None Permit e = absurd (omega arith)
 decision-one None None e = refl
 
-pub reply-one : (a b : Reply) → FitsReply a → FitsReply b → packed_reply a ≡ packed_reply b → a ≡ b
-reply-one (Count n) (Count m) s t e = ap Count e
-reply-one (Count n) (Refused g) s t e = absurd (omega arith)
-reply-one (Refused f) (Count m) s t e = absurd (omega arith)
-reply-one (Refused f) (Refused g) s t e = ap Refused (refusal-one f g s t e)
+pub reply-one : (a b : Result ℕ Refusal) → FitsReply a → FitsReply b → packed_reply a ≡ packed_reply b → a ≡ b
+reply-one (Ok n) (Ok m) s t e = ap Ok e
+reply-one (Ok n) (Err g) s t e = absurd (omega arith)
+reply-one (Err f) (Ok m) s t e = absurd (omega arith)
+reply-one (Err f) (Err g) s t e = ap Err (refusal-one f g s t e)
 
-pub answer-one : (a b : Answer) → FitsAnswer a → FitsAnswer b → packed_answer a ≡ packed_answer b → a ≡ b
-answer-one (answer.Given v) (answer.Given w) s t e = ap answer.Given (decision-one v w e)
-answer-one (answer.Given v) (answer.Refused g) s t e = absurd (omega (arith, decision-small v))
-answer-one (answer.Refused f) (answer.Given w) s t e = absurd (omega (arith, decision-small w))
-answer-one (answer.Refused f) (answer.Refused g) s t e = ap answer.Refused (refusal-one f g s t e)
+pub answer-one : (a b : Result Decision Refusal) → FitsAnswer a → FitsAnswer b → packed_answer a ≡ packed_answer b → a ≡ b
+answer-one (Ok v) (Ok w) s t e = ap Ok (decision-one v w e)
+answer-one (Ok v) (Err g) s t e = absurd (omega (arith, decision-small v))
+answer-one (Err f) (Ok w) s t e = absurd (omega (arith, decision-small w))
+answer-one (Err f) (Err g) s t e = ap Err (refusal-one f g s t e)
 
 report_one : {a b : ℕ} {v w : Verdict} → a ≡ b → v ≡ w → ◌≡◌ {A = Report} (record { count = a; verdict = v }) (record { count = b; verdict = w })
 report_one p q = cc
@@ -132,13 +126,13 @@ verdict_even verdict.Least = refl
 verdict_even (verdict.Longer n) = omega arith
 verdict_even (verdict.Wrong i a) = omega arith
 
-pub judgement_one : (a b : Judgement) → FitsJudgement a → FitsJudgement b → packed_judgement a ≡ packed_judgement b → a ≡ b
-judgement_one (judgement.Reported r) (judgement.Reported q) s t e =
+pub judgement_one : (a b : Result Report Refusal) → FitsJudgement a → FitsJudgement b → packed_judgement a ≡ packed_judgement b → a ≡ b
+judgement_one (Ok r) (Ok q) s t e =
     let v = packed_verdict r.verdict in
     let w = packed_verdict q.verdict in
     let x = verdict_even r.verdict in
     let y = verdict_even q.verdict in
-    ap judgement.Reported (report_one (omega arith) (verdict_one r.verdict q.verdict s.1 t.1 (omega arith)))
-judgement_one (judgement.Reported r) (judgement.Refused g) s t e = absurd (omega (arith, report_low r))
-judgement_one (judgement.Refused f) (judgement.Reported q) s t e = absurd (omega (arith, report_low q))
-judgement_one (judgement.Refused f) (judgement.Refused g) s t e = ap judgement.Refused (refusal-one f g s t e)
+    ap Ok (report_one (omega arith) (verdict_one r.verdict q.verdict s.1 t.1 (omega arith)))
+judgement_one (Ok r) (Err g) s t e = absurd (omega (arith, report_low r))
+judgement_one (Err f) (Ok q) s t e = absurd (omega (arith, report_low q))
+judgement_one (Err f) (Err g) s t e = ap Err (refusal-one f g s t e)

@@ -1,13 +1,12 @@
 -- The rules that any marks of a sound dossier list: the lister writes them, first applicable decides over them as the marks say, and reading back yields the marks. Assumes nothing.
-use Rattle.std.proofs.Common.{◌≡◌, ℕ, ◌+◌, ◌*◌, ◌<◌, ◌≤◌, ◌↔◌, List, [], length, sym, refl, ◌∙◌, append-nil, arith, le-ltb}
+use Rattle.std.proofs.Common.{◌≡◌, ℕ, ◌+◌, ◌*◌, ◌<◌, ◌≤◌, ◌↔◌, List, [], length, sym, refl, ◌∙◌, append-nil, arith, le-ltb, Result, Ok}
 use Rattle.dossier.specs.Limits.{width}
-use Rattle.dossier.specs.Elements.{Mark, m-, m+, m±, marks_of}
+use Rattle.dossier.specs.Elements.{marks_of}
+use Rattle.dossier.specs.declared.elements.Mark.{Mark}
+use Rattle.dossier.specs.declared.elements.Mark.TheVariants.{Minus as m-, Plus as m+, PlusMinus as m±}
 use Rattle.dossier.specs.Bytes.{records, key_at, elements_of, with_marks}
 use Rattle.dossier.specs.Replies.{refusal, room_by, fronted}
 use Rattle.dossier.specs.Reading.{Sound}
-use Rattle.dossier.specs.declared.Reply.{Reply}
-use Rattle.dossier.specs.declared.Reply.TheVariants.{Count}
-use Rattle.dossier.specs.declared.Answer.TheVariants.{Given}
 use Rattle.dossier.proofs.Sounds.{sound-counted}
 use Rattle.dossier.proofs.Marked.{marked-length, marked_other, marked-elements, marked-marks, marked-sound}
 use Rattle.rules.specs.Rules.{target_at, rules_of, list_bytes}
@@ -28,6 +27,7 @@ use Rattle.listing.proofs.Unique.{back_one}
 use Rattle.listing.proofs.Decides.{first_at_lem}
 use Rattle.demands.specs.Demand2.{Marking, rules_from, marked_at}
 use Rattle.demands.proofs.Requests.{told-refused}
+use Rattle.dossier.specs.declared.Refusal.{Refusal}
 
 module _ (d : List ℕ) (m : Marking d) where
   abbrev new : List ℕ
@@ -41,7 +41,7 @@ module _ (d : List ℕ) (m : Marking d) where
   -- ---- the lister
 
   pub listed : (area : List ℕ) → Sound d → length (rules_from d m) * width ≤ length area
-      → (list_reply new area ≡ Count (length (rules_from d m))) × (list_area new area ≡ fronted area (list_bytes (rules_from d m)))
+      → (list_reply new area ≡ Ok (length (rules_from d m))) × (list_area new area ≡ fronted area (list_bytes (rules_from d m)))
   unfolding list_reply list_area room_by
   listed area s l =
       let read = sound-counted new (marked-sound d m.marks m.each s) in
@@ -75,7 +75,7 @@ module _ (d : List ℕ) (m : Marking d) where
 
   -- ---- deciding over them
 
-  pub decided_as_marked : (i : ℕ) → Sound d → i < records d → decide_of d (list_bytes (rules_from d m)) [] 0 i ≡ Given (marked_at d m i)
+  pub decided_as_marked : (i : ℕ) → Sound d → i < records d → decide_of d (list_bytes (rules_from d m)) [] 0 i ≡ Ok (marked_at d m i)
   unfolding rules_of
   decided_as_marked i s l =
       let n = elements-length d in
@@ -97,18 +97,18 @@ module _ (d : List ℕ) (m : Marking d) where
 
   -- ---- reading them back
 
-  pub read_back : (reply : Reply) (new' : List ℕ) → Sound d → Back d (list_bytes (rules_from d m)) reply new'
-      → (reply ≡ Count (records d)) × (new' ≡ new) × (marks_of (elements_of new') ≡ m.marks)
+  pub read_back : (reply : Result ℕ Refusal) (new' : List ℕ) → Sound d → Back d (list_bytes (rules_from d m)) reply new'
+      → (reply ≡ Ok (records d)) × (new' ≡ new) × (marks_of (elements_of new') ≡ m.marks)
   read_back reply new' s b =
       let rs : List ℕ = list_bytes (rules_from d m) in
       let g : Gives d m.marks (rules_of rs) = record { each = m.each; lists = sym (rules-back (rules_from d m)) } in
       let c = (count-sound d rs 1 (records rs)).1 (rules-sound s, refl) in
-      let u = back_one d rs reply (Count (records d)) new' new b (back-told d rs _ _ _ _ (sound-counted d s) c (marked m.marks g)) in
+      let u = back_one d rs reply (Ok (records d)) new' new b (back-told d rs _ _ _ _ (sound-counted d s) c (marked m.marks g)) in
       (u.0, u.1, rw u.1 (marked-marks d m.marks m.each))
 
 -- ---- a list that no marks give
 
-pub no_marks_refused : (d rs : List ℕ) (reply : Reply) (new : List ℕ) → Sound d → SoundRules d rs → Back d rs reply new
+pub no_marks_refused : (d rs : List ℕ) (reply : Result ℕ Refusal) (new : List ℕ) → Sound d → SoundRules d rs → Back d rs reply new
     → (reply ≡ refusal 9 1 0) ↔ ((ms : List Mark) → Gives d ms (rules_of rs) → ⊥)
 no_marks_refused d rs reply new s t b =
     let told : Told d rs reply new = rw (sound-counted d s, (count-sound d rs 1 (records rs)).1 (t, refl)) at b in

@@ -3,14 +3,20 @@ use Rattle.std.proofs.Common.{◌≡◌, ℕ, zero, suc, ◌<◌, Bool, true, fa
 use mathlib.Core.Option.{some, some-injective, none-ne-some}
 use native.Mathlib.Decide.{dec_le}
 use lib.ListN.{get_elem?}
-use Rattle.dossier.specs.Elements.{Effect, deny, permit, Element, is}
+use Rattle.dossier.specs.Elements.{Element, is}
+use Rattle.dossier.specs.declared.elements.Effect.{Effect}
+use Rattle.dossier.specs.declared.elements.Effect.TheVariants.{Deny as deny, Permit as permit}
 use Rattle.dossier.specs.Order.{Ordered}
-use Rattle.dossier.specs.declared.Decision.{Decision}
-use Rattle.dossier.specs.declared.Decision.TheVariants.{Deny, Permit, None}
+use Rattle.dossier.specs.declared.elements.Decision.{Decision}
+use Rattle.dossier.specs.declared.elements.Decision.TheVariants.{Deny, Permit, None}
 use Rattle.dossier.proofs.Parents.{covers_chain}
-use Rattle.rules.specs.Rules.{Reach, self, all, Rule}
+use Rattle.rules.specs.Rules.{Rule}
+use Rattle.rules.specs.declared.kinds.Reach.{Reach}
+use Rattle.rules.specs.declared.kinds.Reach.TheVariants.{Itself as self, All as all}
 use Rattle.rules.specs.Applying.{reaches, applies}
-use Rattle.rules.specs.Combining.{Combining, first_applicable, deny_overrides, permit_overrides, first_effect, gives, any_gives, overrides, decision}
+use Rattle.rules.specs.Combining.{first_effect, gives, any_gives, overrides, decision}
+use Rattle.rules.specs.declared.kinds.Combining.{Combining}
+use Rattle.rules.specs.declared.kinds.Combining.TheVariants.{FirstApplicable as first_applicable, DenyOverrides as deny_overrides, PermitOverrides as permit_overrides}
 use Rattle.rules.proofs.Choice.{is-gives, gives-is}
 use Rattle.demands.specs.Published.{Reaches, RuleSays, Some, NoRule, FirstRule, Combined, Published}
 

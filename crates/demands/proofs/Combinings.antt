@@ -1,8 +1,9 @@
 -- Each combining has its number, 0 is the base's folder and judge, and permit overrides is deny overrides with permit and deny exchanged. Assumes nothing.
 use Rattle.std.proofs.Common.{◌≡◌, ℕ, ◌↔◌, List, length, sym, ◌∙◌, subst}
-use Rattle.dossier.specs.Elements.{Mark, Element}
-use Rattle.dossier.specs.declared.Decision.{Decision}
-use Rattle.rules.specs.Combining.{deny_overrides, permit_overrides}
+use Rattle.dossier.specs.Elements.{Element}
+use Rattle.dossier.specs.declared.elements.Mark.{Mark}
+use Rattle.dossier.specs.declared.elements.Decision.{Decision}
+use Rattle.rules.specs.declared.kinds.Combining.TheVariants.{DenyOverrides as deny_overrides, PermitOverrides as permit_overrides}
 use Rattle.rules.specs.Exchange.{exchanged_decision, exchanged_elements}
 use Rattle.rules.proofs.Combinings.{of_number, number_of}
 use Rattle.rules.proofs.Exchange.{exchanged_twice, decisions-exchanged}

@@ -1,16 +1,16 @@
 -- Deciding one element gives the published decision, and the second call the deciding rule's bytes. Assumes nothing.
-use Rattle.std.proofs.Common.{◌≡◌, ℕ, zero, suc, ◌<◌, ◌≤◌, ◌≢◌, ◌⊎◌, ◌↔◌, List, [], ◌∷◌, length, get_or, sym, refl, ap, ◌∙◌, inl, inr, arith}
+use Rattle.std.proofs.Common.{◌≡◌, ℕ, zero, suc, ◌<◌, ◌≤◌, ◌≢◌, ◌⊎◌, ◌↔◌, List, [], ◌∷◌, length, get_or, sym, refl, ap, ◌∙◌, inl, inr, arith, Result, Ok, Err}
 use mathlib.Core.Option.{some, some-injective, none-ne-some}
 use lib.ListN.{get_elem?}
-use Rattle.dossier.specs.Elements.{Effect, deny, permit, is}
+use Rattle.dossier.specs.Elements.{is}
+use Rattle.dossier.specs.declared.elements.Effect.{Effect}
+use Rattle.dossier.specs.declared.elements.Effect.TheVariants.{Deny as deny, Permit as permit}
 use Rattle.dossier.specs.Bytes.{records, elements_of}
 use Rattle.dossier.specs.Order.{Ordered}
 use Rattle.dossier.specs.Reading.{Sound}
-use Rattle.dossier.specs.declared.Decision.{Decision}
-use Rattle.dossier.specs.declared.Decision.TheVariants.{None}
+use Rattle.dossier.specs.declared.elements.Decision.{Decision}
+use Rattle.dossier.specs.declared.elements.Decision.TheVariants.{None}
 use Rattle.dossier.specs.declared.Refusal.{Refusal}
-use Rattle.dossier.specs.declared.Answer.{Answer}
-use Rattle.dossier.specs.declared.Answer.TheVariants.{Given, Refused}
 use Rattle.rules.specs.Rules.{Rule, rule_at}
 use Rattle.rules.specs.ReadingRules.{SoundRules}
 use Rattle.rules.specs.Applying.{applies}
@@ -41,7 +41,7 @@ module _ (d house recipient : List ℕ) (c i : ℕ) where
   rules = both_rules house recipient
 
   pub decided : Sound d → SoundRules d house → SoundRules d recipient → c ≤ last_combining → i < records d
-      → (v : Decision) → (decide_of d house recipient c i ≡ Given v) ↔ Published (elements_of d) i rules (combining_of c) v
+      → (v : Decision) → (decide_of d house recipient c i ≡ Ok v) ↔ Published (elements_of d) i rules (combining_of c) v
   decided s h r l m v =
       let p = is-published (elements_of d) s.order i rules (combining_of c) v in
       let g = given-answer d house recipient c i v in (
@@ -49,7 +49,7 @@ module _ (d house recipient : List ℕ) (c i : ℕ) where
         λ q. g.1 (record { elements = s; first = h; second = r; combining = l; element = m }, sym (p.1 q)),
       )
 
-  pub deciding-rule : (e : Effect) → decide_of d house recipient c i ≡ Given (is e) → Deciding (elements_of d) i house recipient e (deciding_of d house recipient c i)
+  pub deciding-rule : (e : Effect) → decide_of d house recipient c i ≡ Ok (is e) → Deciding (elements_of d) i house recipient e (deciding_of d house recipient c i)
   deciding-rule e given =
       let z = rule_at [] 0 in
       let k = deciding_at (combining_of c) (elements_of d) i rules in
@@ -73,15 +73,15 @@ module _ (d house recipient : List ℕ) (c i : ℕ) where
       }
 
   pub deciding-none : (deciding_of d house recipient c i ≡ [])
-      ↔ ((decide_of d house recipient c i ≡ Given None) ⊎ ((f : Refusal) × (decide_of d house recipient c i ≡ Refused f)))
+      ↔ ((decide_of d house recipient c i ≡ Ok None) ⊎ ((f : Refusal) × (decide_of d house recipient c i ≡ Err f)))
   deciding-none =
       let p = part-empty d house recipient c i in
       (λ e. to (decide_of d house recipient c i) (p.0 e), λ q. p.1 (from (decide_of d house recipient c i) q))
     where
-      to : (a : Answer) → Silent a → (a ≡ Given None) ⊎ ((f : Refusal) × (a ≡ Refused f))
+      to : (a : Result Decision Refusal) → Silent a → (a ≡ Ok None) ⊎ ((f : Refusal) × (a ≡ Err f))
       to a none = inl refl
       to a (refused f) = inr (f, refl)
 
-      from : (a : Answer) → (a ≡ Given None) ⊎ ((f : Refusal) × (a ≡ Refused f)) → Silent a
+      from : (a : Result Decision Refusal) → (a ≡ Ok None) ⊎ ((f : Refusal) × (a ≡ Err f)) → Silent a
       from a (inl e) = rw e none
       from a (inr q) = rw q.1 (refused q.0)

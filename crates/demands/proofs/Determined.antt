@@ -1,20 +1,21 @@
 -- What each public function promises fixes its reply and what each lent buffer then holds. Assumes nothing.
-use Rattle.std.proofs.Common.{◌≡◌, ℕ, ◌<◌, List, [], length, get_or, sym, refl, ap, ◌∙◌, zero-add, arith, ext_get_or}
+use Rattle.std.proofs.Common.{◌≡◌, ℕ, ◌<◌, List, [], length, get_or, sym, refl, ap, ◌∙◌, zero-add, arith, ext_get_or, Result, Ok, Err}
 use native.Mathlib.Decide.{ℕ_discrete}
 use mathlib.Core.List.{List-discrete}
-use Rattle.dossier.specs.Elements.{Mark, mn, marks_of, mark_of}
+use Rattle.dossier.specs.Elements.{marks_of, mark_of}
+use Rattle.dossier.specs.declared.elements.Mark.{Mark}
+use Rattle.dossier.specs.declared.elements.Mark.TheVariants.{N as mn}
 use Rattle.dossier.specs.Bytes.{records, run, elements_of, joined, with_marks}
 use Rattle.dossier.specs.Replies.{refusal, and_then, afterwards, room_for, fronted}
 use Rattle.dossier.specs.Reading.{read_of, Sound}
-use Rattle.dossier.specs.declared.Reply.{Reply}
-use Rattle.dossier.specs.declared.Reply.TheVariants.{Count, Refused}
-use Rattle.dossier.specs.declared.Answer.{Answer}
 use Rattle.dossier.proofs.Runs.{run_length, run_at}
 use Rattle.dossier.proofs.RoundTrip.{mark-back}
 use Rattle.dossier.proofs.Sounds.{counted-sound}
 use Rattle.rules.specs.Rules.{Rule, rules_of, list_bytes}
 use Rattle.rules.specs.ReadingRules.{read_rules_of}
-use Rattle.rules.specs.Combining.{Combining, first_applicable, combining_of, decision}
+use Rattle.rules.specs.Combining.{combining_of, decision}
+use Rattle.rules.specs.declared.kinds.Combining.{Combining}
+use Rattle.rules.specs.declared.kinds.Combining.TheVariants.{FirstApplicable as first_applicable}
 use Rattle.rules.proofs.RoundTrip.{rules-back}
 use Rattle.marks.specs.Marks.{first}
 use Rattle.marks.specs.Walking.{walked}
@@ -33,8 +34,6 @@ use Rattle.least.specs.Folding.{FoldedAfter, Folded, asked_for, FoldedFor}
 use Rattle.least.specs.Judging.{JudgedAfter, Judged, JudgedFor}
 use Rattle.least.specs.Prices.{wrong_cost}
 use Rattle.least.specs.Inner.{gateway_of}
-use Rattle.least.specs.declared.Judgement.{Judgement}
-use Rattle.least.specs.declared.Judgement.TheVariants as judgement
 use Rattle.least.proofs.Folds.{fold}
 use Rattle.least.proofs.Verdicts.{verdict_of}
 use Rattle.least.proofs.Numbers.{judges-by}
@@ -48,6 +47,9 @@ use Rattle.view.specs.Inner.{shown_of}
 use Rattle.view.proofs.Belongs.{shown-view}
 use Rattle.view.proofs.Unique.{views_unique}
 use Rattle.demands.specs.Definite.{ExactlyOne, OneReply, Definite}
+use Rattle.dossier.specs.declared.elements.Decision.{Decision}
+use Rattle.dossier.specs.declared.Refusal.{Refusal}
+use Rattle.least.specs.declared.Report.{Report}
 
 -- ---- promises that are equations
 
@@ -77,10 +79,10 @@ step-only w r = go (leaves? w)
     go (yes left) = by (take_of w r) (steps_by w r (take_of w r) (λ l. refl) (λ n. absurd (n left)))
     go (no never) = by (refused_step w 17 0) (steps_by w r (refused_step w 17 0) (λ l. absurd (never l)) (λ n. refl))
 
-in_place_only : (w : Walk) (r : List ℕ) → OneReply (λ (reply : Answer) (new : Walk). Steps w r (record { walk = new; answer = reply }))
+in_place_only : (w : Walk) (r : List ℕ) → OneReply (λ (reply : Result Decision Refusal) (new : Walk). Steps w r (record { walk = new; answer = reply }))
 in_place_only w r =
     let s = step-only w r in
-    one-reply (λ (reply : Answer) (new : Walk). Steps w r (record { walk = new; answer = reply }))
+    one-reply (λ (reply : Result Decision Refusal) (new : Walk). Steps w r (record { walk = new; answer = reply }))
     (λ a b v u g h. (let e = steps_one w r _ _ g h in (ap (λ (x : Stepped). x.answer) e, ap (λ (x : Stepped). x.walk) e)))
     s.it.answer s.it.walk s.allowed
 
@@ -120,47 +122,47 @@ module _ (d : List ℕ) (rs : List Rule) where
 back-only : (d rs : List ℕ) → OneReply (Back d rs)
 back-only d rs = go (and_then (read_of d) (read_rules_of d 1 rs)) refl
   where
-    by : (reply : Reply) (new : List ℕ) → Back d rs reply new → OneReply (Back d rs)
+    by : (reply : Result ℕ Refusal) (new : List ℕ) → Back d rs reply new → OneReply (Back d rs)
     by = one-reply (Back d rs) (back_one d rs)
 
-    go : (x : Reply) → and_then (read_of d) (read_rules_of d 1 rs) ≡ x → OneReply (Back d rs)
-    go (Refused f) e = by (Refused f) d (rw e (refl, refl))
-    go (Count n) e = told? (rules? (list_of (elements_of d) (tells d (rules_of rs))) (rules_of rs))
+    go : (x : Result ℕ Refusal) → and_then (read_of d) (read_rules_of d 1 rs) ≡ x → OneReply (Back d rs)
+    go (Err f) e = by (Err f) d (rw e (refl, refl))
+    go (Ok n) e = told? (rules? (list_of (elements_of d) (tells d (rules_of rs))) (rules_of rs))
       where
         told? : Dec (list_of (elements_of d) (tells d (rules_of rs)) ≡ rules_of rs) → OneReply (Back d rs)
         told? (yes l) =
-            by (Count (records d)) (with_marks d 0 (tells d (rules_of rs)))
+            by (Ok (records d)) (with_marks d 0 (tells d (rules_of rs)))
             (rw e (marked (tells d (rules_of rs)) (record { each = tells-length d (rules_of rs); lists = l })))
         told? (no n) = by (refusal 9 1 0) d (rw e (none (λ ms g. n (ap (list_of (elements_of d)) (tells_all d (rules_of rs) ms g) ∙ g.lists))))
 
 -- ---- the folder and the judge
 
 -- by any way to answer that has a folder's marking of every sound dossier
-module _ (A : Answers) (x : Reply) (d : List ℕ) (sound : (n : ℕ) → x ≡ Count n → Sound d) (marks : List Mark) (folds : Sound d → Fold A (elements_of d) marks) where
+module _ (A : Answers) (x : Result ℕ Refusal) (d : List ℕ) (sound : (n : ℕ) → x ≡ Ok n → Sound d) (marks : List Mark) (folds : Sound d → Fold A (elements_of d) marks) where
   fold-by : OneReply (FoldedAfter A x d)
   fold-by = go x refl
     where
-      by : (reply : Reply) (new : List ℕ) → FoldedAfter A x d reply new → OneReply (FoldedAfter A x d)
+      by : (reply : Result ℕ Refusal) (new : List ℕ) → FoldedAfter A x d reply new → OneReply (FoldedAfter A x d)
       by = one-reply (FoldedAfter A x d) (folded_after A x d)
 
-      go : (y : Reply) → x ≡ y → OneReply (FoldedAfter A x d)
-      go (Refused f) e = by (Refused f) d (rw e (refl, refl))
-      go (Count n) e =
-          by (Count (count (elements_of d) marks)) (with_marks d 0 marks)
+      go : (y : Result ℕ Refusal) → x ≡ y → OneReply (FoldedAfter A x d)
+      go (Err f) e = by (Err f) d (rw e (refl, refl))
+      go (Ok n) e =
+          by (Ok (count (elements_of d) marks)) (with_marks d 0 marks)
           (rw e (record { marks = marks; folds = folds (sound n e); written = refl; counted = refl }))
 
   judge-by : length (A (elements_of d) (marks_of (elements_of d))) ≡ length (elements_of d) → ExactlyOne (JudgedAfter A x d)
   judge-by long = go x refl
     where
-      by : (j : Judgement) → JudgedAfter A x d j → ExactlyOne (JudgedAfter A x d)
+      by : (j : Result Report Refusal) → JudgedAfter A x d j → ExactlyOne (JudgedAfter A x d)
       by j h = record { it = j; allowed = h; only = λ q g. judged-after A x d q j g h }
 
-      go : (y : Reply) → x ≡ y → ExactlyOne (JudgedAfter A x d)
-      go (Refused f) e = by (judgement.Refused f) (rw e (refl, refl))
-      go (Count n) e =
+      go : (y : Result ℕ Refusal) → x ≡ y → ExactlyOne (JudgedAfter A x d)
+      go (Err f) e = by (Err f) (rw e (refl, refl))
+      go (Ok n) e =
           let es = elements_of d in
           let v = verdict_of A es marks (folds (sound n e)).least (marks_of es) (marks-length d) long in
-          by (judgement.Reported (record { count = count es (marks_of es); verdict = v.0 })) (rw e (judges-by A es (marks_of es) _ refl v.1))
+          by (Ok (record { count = count es (marks_of es); verdict = v.0 })) (rw e (judges-by A es (marks_of es) _ refl v.1))
 
 module _ (c : Combining) (d : List ℕ) where
   -- the folder's marks under this combining
@@ -200,12 +202,12 @@ module _ (d : List ℕ) where
 view-only : (d area : List ℕ) → OneReply (Views d area)
 view-only d area = go (read_of d) refl
   where
-    by : (reply : Reply) (new : List ℕ) → Views d area reply new → OneReply (Views d area)
+    by : (reply : Result ℕ Refusal) (new : List ℕ) → Views d area reply new → OneReply (Views d area)
     by = one-reply (Views d area) (views_unique d area)
 
-    go : (x : Reply) → read_of d ≡ x → OneReply (Views d area)
-    go (Refused f) e = by (Refused f) area (rw e (refl, refl))
-    go (Count n) e =
+    go : (x : Result ℕ Refusal) → read_of d ≡ x → OneReply (Views d area)
+    go (Err f) e = by (Err f) area (rw e (refl, refl))
+    go (Ok n) e =
         let reply = room_for (length (shown_of d)) area in
         by reply (afterwards reply area (fronted area (joined (λ r. r) (shown_of d))))
         (rw e (record { shown = shown_of d; view = shown-view d (counted-sound d n e); replied = refl; written = refl }))

@@ -1,9 +1,8 @@
 -- Old and new dossiers: what the old reader accepts is read now with the same elements, so that listing, folding and judging stay; and a depth over 63 is refused by the old reader at the first record of depth 64. Assumes nothing.
-use Rattle.std.proofs.Common.{◌≡◌, ℕ, zero, suc, ◌<◌, ◌≤◌, ltb, ◌⊎◌, List, sym, refl, ◌∙◌, inl, inr, arith, below_more, ltb-false, le-ltb, lt-ltb}
+use Rattle.std.proofs.Common.{◌≡◌, ℕ, zero, suc, ◌<◌, ◌≤◌, ltb, ◌⊎◌, List, sym, refl, ◌∙◌, inl, inr, arith, below_more, ltb-false, le-ltb, lt-ltb, Ok}
 use native.Mathlib.Decide.{dec_le}
 use Rattle.dossier.specs.Bytes.{records, byte_of, depth_at, element_at, elements_of}
 use Rattle.dossier.specs.Reading.{fields_at, low_after, high_after, last_before, fault_at, read_of, Sound}
-use Rattle.dossier.specs.declared.Reply.TheVariants as reply
 use Rattle.dossier.specs.Replies.{refusal}
 use Rattle.dossier.proofs.Laws.{depth-bytes}
 use Rattle.dossier.proofs.Runs.{run-same}
@@ -83,11 +82,11 @@ module _ (d : List ℕ) (o : OldSound d) where
       not_faulty (low_after i) (high_after i (last_before d i)) (fields_at d i)
       (record { shallow = omega (arith, e, f.shallow); least = rw e f.least; most = rw (e, same-before i l) f.most; decided = f.decided; marked = f.marked })
 
-  now_counted : read_of d ≡ reply.Count (records d)
+  now_counted : read_of d ≡ Ok (records d)
   unfolding read_of
   now_counted = all-counted (fault_at d) d (record { some = was.some; whole = was.whole; few = was.few; free = faultless })
 
-  old_counted : old_read d ≡ reply.Count (records d)
+  old_counted : old_read d ≡ Ok (records d)
   unfolding old_read
   old_counted = all-counted (old_fault d) d was
 

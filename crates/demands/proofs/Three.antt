@@ -1,7 +1,7 @@
 -- Demand 3 holds by the walk, and read with each combining. Assumes nothing.
 use Rattle.dossier.specs.Bytes.{elements_of}
 use Rattle.dossier.proofs.Sounds.{sound-counted}
-use Rattle.rules.specs.Combining.{Combining}
+use Rattle.rules.specs.declared.kinds.Combining.{Combining}
 use Rattle.marks.specs.Marks.{first}
 use Rattle.least.proofs.Folds.{minuses-right, first_plain}
 use Rattle.least.proofs.Gateways.{minus_listed}

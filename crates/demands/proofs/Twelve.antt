@@ -1,15 +1,14 @@
 -- The twelve cases hold: one test, which computes a case by the folder's and the judge's closed functions, and what it finds is a proof. Assumes nothing.
-use Rattle.std.proofs.Common.{◌≡◌, ℕ, suc, Bool, true, false, eqb, List, [], ◌∷◌, length, sym, refl, ap, ◌∙◌, subst, arith, eqb-true}
+use Rattle.std.proofs.Common.{◌≡◌, ℕ, suc, Bool, true, false, eqb, List, [], ◌∷◌, length, sym, refl, ap, ◌∙◌, subst, arith, eqb-true, Result, Ok, Err}
 use mathlib.Core.Option.{Option, none, some, bind}
 use native.Mathlib.Decide.{dec_le}
-use Rattle.dossier.specs.Elements.{Mark, Element, mark_number, mark_of, decision_number, decision_of}
+use Rattle.dossier.specs.Elements.{Element, mark_number, mark_of, decision_number, decision_of}
+use Rattle.dossier.specs.declared.elements.Mark.{Mark}
 use Rattle.dossier.specs.Bytes.{depth_at, dossier_bytes}
 use Rattle.dossier.specs.Order.{Ordered}
 use Rattle.dossier.specs.Replies.{refusal}
 use Rattle.dossier.specs.Reading.{low_after, high_after, fault_of, fault_at, first_fault, read_of}
 use Rattle.dossier.specs.Forest.{parse, front_f, back_f}
-use Rattle.dossier.specs.declared.Reply.{Reply}
-use Rattle.dossier.specs.declared.Reply.TheVariants.{Count, Refused}
 use Rattle.dossier.proofs.RoundTrip.{mark-back, elements-back}
 use Rattle.dossier.proofs.Sounds.{counted-sound}
 use Rattle.marks.specs.Marks.{first}
@@ -26,6 +25,7 @@ use Rattle.least.proofs.Minimal.{greedy}
 use Rattle.least.proofs.Folds.{fold, fold_is, first_plain}
 use Rattle.least.proofs.Verdicts.{verdict_of, differ, eq_decision}
 use Rattle.demands.specs.Twelve.{Case, folds, judged, refused, Correct, All, table}
+use Rattle.dossier.specs.declared.Refusal.{Refusal}
 
 -- ---- are two of a kind the same
 
@@ -73,16 +73,16 @@ folded es o = fold_is first (W es) first_plain es o (omega arith)
 unfoldable ordered : (es : List Element) → Option (Ordered es)
 ordered es = go (read_of (dossier_bytes es)) refl
   where
-    go : (reply : Reply) → read_of (dossier_bytes es) ≡ reply → Option (Ordered es)
-    go (Count n) e = some (subst Ordered (elements-back es) (counted-sound (dossier_bytes es) n e).order)
-    go (Refused f) e = none
+    go : (reply : Result ℕ Refusal) → read_of (dossier_bytes es) ≡ reply → Option (Ordered es)
+    go (Ok n) e = some (subst Ordered (elements-back es) (counted-sound (dossier_bytes es) n e).order)
+    go (Err f) e = none
 
-unfoldable refusal_is : (reply : Reply) (number position : ℕ) → Option (reply ≡ refusal number 0 position)
+unfoldable refusal_is : (reply : Result ℕ Refusal) (number position : ℕ) → Option (reply ≡ refusal number 0 position)
 unfolding same
-refusal_is (Count n) number position = none
-refusal_is (Refused f) number position =
+refusal_is (Ok n) number position = none
+refusal_is (Err f) number position =
     bind (same f.number number) (λ p. bind (same f.list 0) (λ q. bind (same f.position position) (λ r.
-    some (λ i. Refused (record { number = p i; list = q i; position = r i })))))
+    some (λ i. Err (record { number = p i; list = q i; position = r i })))))
 
 unfoldable tested : (c : Case) → Option (Correct c)
 unfolding same same-marks same_verdict ordered refusal_is

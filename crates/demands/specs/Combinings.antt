@@ -1,26 +1,29 @@
 -- How the combinings hang together: each has its number, 0 is the base's folder and judge, and exchanging permit and deny throughout turns permit overrides into deny overrides. Request M-104 and document 01, "How a decision comes about".
 -- Assumes nothing: these are definitions.
-use Rattle.std.specs.Prelude.{◌≡◌, ◌↔◌, ℕ, ◌≤◌, List, map, length}
-use Rattle.dossier.specs.Elements.{Mark, Element}
-use Rattle.dossier.specs.declared.Decision.{Decision}
-use Rattle.dossier.specs.declared.Reply.{Reply}
+use Rattle.std.specs.Prelude.{◌≡◌, ◌↔◌, ℕ, ◌≤◌, List, map, length, Result}
+use Rattle.dossier.specs.Elements.{Element}
+use Rattle.dossier.specs.declared.elements.Mark.{Mark}
+use Rattle.dossier.specs.declared.elements.Decision.{Decision}
 use Rattle.rules.specs.Rules.{Rule}
-use Rattle.rules.specs.Combining.{Combining, deny_overrides, permit_overrides, combining_number, last_combining, combining_of, decisions}
+use Rattle.rules.specs.Combining.{combining_number, last_combining, combining_of, decisions}
+use Rattle.rules.specs.declared.kinds.Combining.{Combining}
+use Rattle.rules.specs.declared.kinds.Combining.TheVariants.{DenyOverrides as deny_overrides, PermitOverrides as permit_overrides}
 use Rattle.rules.specs.Exchange.{exchanged_decision, exchanged, exchanged_elements}
 use Rattle.least.specs.Least.{by_rules, count, Least, Fold}
 use Rattle.least.specs.Folding.{Folded, FoldedFor}
 use Rattle.least.specs.Judging.{Longer, Wrong, Judged, JudgedFor}
-use Rattle.least.specs.declared.Judgement.{Judgement}
 use Rattle.demands.specs.Demand3.{combining, FoldedBy, JudgedBy}
+use Rattle.dossier.specs.declared.Refusal.{Refusal}
+use Rattle.least.specs.declared.Report.{Report}
 
 pub record Combinings : Type 0 where
   -- each combining has its number, and what is promised for a number is what demand 3 is read with
   pub numbered : (c : Combining) → combining_of (combining_number c) ≡ c
-  pub fold-by : (n : ℕ) → n ≤ last_combining → (d : List ℕ) (reply : Reply) (new : List ℕ) → FoldedFor n d reply new ↔ FoldedBy (combining (combining_of n)) d reply new
-  pub judge-by : (n : ℕ) → n ≤ last_combining → (d : List ℕ) (j : Judgement) → JudgedFor n d j ↔ JudgedBy (combining (combining_of n)) d j
+  pub fold-by : (n : ℕ) → n ≤ last_combining → (d : List ℕ) (reply : Result ℕ Refusal) (new : List ℕ) → FoldedFor n d reply new ↔ FoldedBy (combining (combining_of n)) d reply new
+  pub judge-by : (n : ℕ) → n ≤ last_combining → (d : List ℕ) (j : Result Report Refusal) → JudgedFor n d j ↔ JudgedBy (combining (combining_of n)) d j
   -- what is promised for 0 is what the base promises
-  pub fold_0 : (d : List ℕ) (reply : Reply) (new : List ℕ) → FoldedFor 0 d reply new ↔ Folded d reply new
-  pub judge_0 : (d : List ℕ) (j : Judgement) → JudgedFor 0 d j ↔ Judged d j
+  pub fold_0 : (d : List ℕ) (reply : Result ℕ Refusal) (new : List ℕ) → FoldedFor 0 d reply new ↔ Folded d reply new
+  pub judge_0 : (d : List ℕ) (j : Result Report Refusal) → JudgedFor 0 d j ↔ Judged d j
   -- exchanged throughout, the answers of permit overrides over any rule list are those of deny overrides
   pub answers : (es : List Element) (rs : List Rule) → decisions permit_overrides es rs ≡ map exchanged_decision (decisions deny_overrides (exchanged_elements es) (map exchanged rs))
   -- the folder's marks are the same, and so is their count

@@ -9,14 +9,15 @@
 --   listing: read_back
 --   least: fold, fold_for, judge, judge_for
 --   view: view
-use Rattle.std.specs.Prelude.{◌≡◌, ℕ, List}
-use Rattle.dossier.specs.declared.Answer.{Answer}
+use Rattle.std.specs.Prelude.{◌≡◌, ℕ, List, Result}
 use Rattle.marks.specs.Stepping.{Steps}
 use Rattle.marks.specs.declared.Walk.{Walk}
 use Rattle.listing.specs.Back.{Back}
 use Rattle.least.specs.Folding.{Folded, FoldedFor}
 use Rattle.least.specs.Judging.{Judged, JudgedFor}
 use Rattle.view.specs.View.{Views}
+use Rattle.dossier.specs.declared.elements.Decision.{Decision}
+use Rattle.dossier.specs.declared.Refusal.{Refusal}
 
 -- exactly one is allowed: there is one, and any other is the same
 pub record ExactlyOne {A : Type 0} (Allowed : A → Type 0) : Type 0 where
@@ -30,7 +31,7 @@ OneReply {R} {B} Allowed = ExactlyOne {A = R × B} (λ p. Allowed p.0 p.1)
 
 pub record Definite : Type 0 where
   pub step : (w : Walk) (r : List ℕ) → ExactlyOne (Steps w r)
-  pub step_in_place : (w : Walk) (r : List ℕ) → OneReply (λ (reply : Answer) (new : Walk). Steps w r (record { walk = new; answer = reply }))
+  pub step_in_place : (w : Walk) (r : List ℕ) → OneReply (λ (reply : Result Decision Refusal) (new : Walk). Steps w r (record { walk = new; answer = reply }))
   pub read_back : (d rs : List ℕ) → OneReply (Back d rs)
   pub fold : (d : List ℕ) → OneReply (Folded d)
   pub judge : (d : List ℕ) → ExactlyOne (Judged d)

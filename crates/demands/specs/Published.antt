@@ -2,12 +2,17 @@
 use Rattle.std.specs.Prelude.{◌≡◌, ℕ, ◌<◌, List, [], get_or}
 use Rattle.std.proofs.Math.Option.{some}
 use Rattle.std.proofs.Math.ListN.{get_elem?}
-use Rattle.dossier.specs.Elements.{Effect, deny, permit, Element}
-use Rattle.dossier.specs.declared.Decision.{Decision}
-use Rattle.dossier.specs.declared.Decision.TheVariants.{Deny, Permit, None}
+use Rattle.dossier.specs.Elements.{Element}
+use Rattle.dossier.specs.declared.elements.Effect.{Effect}
+use Rattle.dossier.specs.declared.elements.Effect.TheVariants.{Deny as deny, Permit as permit}
+use Rattle.dossier.specs.declared.elements.Decision.{Decision}
+use Rattle.dossier.specs.declared.elements.Decision.TheVariants.{Deny, Permit, None}
 use Rattle.dossier.specs.Order.{Chain}
-use Rattle.rules.specs.Rules.{Reach, self, all, Rule}
-use Rattle.rules.specs.Combining.{Combining, first_applicable, deny_overrides, permit_overrides}
+use Rattle.rules.specs.Rules.{Rule}
+use Rattle.rules.specs.declared.kinds.Reach.{Reach}
+use Rattle.rules.specs.declared.kinds.Reach.TheVariants.{Itself as self, All as all}
+use Rattle.rules.specs.declared.kinds.Combining.{Combining}
+use Rattle.rules.specs.declared.kinds.Combining.TheVariants.{FirstApplicable as first_applicable, DenyOverrides as deny_overrides, PermitOverrides as permit_overrides}
 use Rattle.rules.specs.Deciding.{both_rules, both_records}
 
 -- a self rule applies to its target; an all rule to its target and everything below it, from where a chain of parents leads up to the target

@@ -1,7 +1,7 @@
 -- The rows of the table that the requests put in their order. Those of a dossier's own bytes and of an output area stand in dossier/specs/Refusing.antt. Document 01, "Refusal numbers". Assumes nothing: these are definitions.
 use Rattle.std.specs.Prelude.{◌≢◌, ℕ, ◌*◌, ◌≤◌, ◌<◌, List, length}
 use Rattle.dossier.specs.Limits.{width, most_elements}
-use Rattle.dossier.specs.Elements.{Mark}
+use Rattle.dossier.specs.declared.elements.Mark.{Mark}
 use Rattle.dossier.specs.Bytes.{records}
 use Rattle.dossier.specs.Reading.{fields_at}
 use Rattle.dossier.specs.Table.{TooDeep, OutOfOrder, BadField}

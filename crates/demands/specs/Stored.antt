@@ -1,12 +1,10 @@
 -- Dossiers of the old kind, which lie in store: what their reader read, when it refused, which elements it saw, and what was promised over these. Request M-103: "stored dossiers … read as before, with the same marks, lists and counts. A reader of the old kind, given a sound dossier of the new kind with a depth over 63, always refuses by 5 at its first record of depth 64".
 -- Assumes nothing: these are definitions.
-use Rattle.std.specs.Prelude.{◌≡◌, ◌↔◌, ◌≢◌, ℕ, zero, suc, ◌<◌, List, cond, length, nat_lt}
+use Rattle.std.specs.Prelude.{◌≡◌, ◌↔◌, ◌≢◌, ℕ, zero, suc, ◌<◌, List, cond, length, nat_lt, Result, Ok}
 use Rattle.dossier.specs.Elements.{Element, marks_of, effect_of, mark_of}
 use Rattle.dossier.specs.Bytes.{records, byte_of, run, depth_at, key_at, elements_of}
 use Rattle.dossier.specs.Replies.{refusal, and_then, afterwards, After, room_for, fronted}
 use Rattle.dossier.specs.Reading.{low_after, high_after, read_by, read_of, Sound}
-use Rattle.dossier.specs.declared.Reply.{Reply}
-use Rattle.dossier.specs.declared.Reply.TheVariants as reply
 use Rattle.rules.specs.Rules.{Rule, list_bytes}
 use Rattle.rules.specs.Combining.{combining_of}
 use Rattle.marks.specs.Marks.{first}
@@ -16,8 +14,8 @@ use Rattle.listing.specs.Area.{list_reply, list_area}
 use Rattle.least.specs.Least.{by_rules}
 use Rattle.least.specs.Folding.{FoldsOf, Folded, combining_for, FoldedFor}
 use Rattle.least.specs.Judging.{ReportsOf, Judged, JudgedFor}
-use Rattle.least.specs.declared.Judgement.{Judgement}
-use Rattle.least.specs.declared.Judgement.TheVariants.{Refused}
+use Rattle.dossier.specs.declared.Refusal.{Refusal}
+use Rattle.least.specs.declared.Report.{Report}
 
 -- ---- the old kind
 
@@ -55,7 +53,7 @@ old_fault d i =
     (cond (nat_lt 3 (byte_of d i 2)) 6
     (cond (nat_lt 0 (byte_of d i 3)) 6 0)))))
 
-unfoldable pub old_read : List ℕ → Reply
+unfoldable pub old_read : List ℕ → Result ℕ Refusal
 old_read d = read_by (old_fault d) d
 
 -- ---- what was promised over what it read and saw
@@ -64,34 +62,34 @@ old_read d = read_by (old_fault d) d
 unfoldable pub old_listed : List ℕ → List Rule
 old_listed d = list_of (old_elements d) (marks_of (old_elements d))
 
-unfoldable pub old_list_reply : List ℕ → List ℕ → Reply
+unfoldable pub old_list_reply : List ℕ → List ℕ → Result ℕ Refusal
 old_list_reply d area = and_then (old_read d) (room_for (length (old_listed d)) area)
 
 unfoldable pub old_list_area : List ℕ → List ℕ → List ℕ
 old_list_area d area = afterwards (old_list_reply d area) area (fronted area (list_bytes (old_listed d)))
 
 -- the folder and the judge, by the walk: 1 to 6
-abbrev pub OldFolded : List ℕ → Reply → List ℕ → Type 0
-OldFolded d r new = After reply.Refused (old_read d) d (FoldsOf (walked first) (old_elements d) d) r new
+abbrev pub OldFolded : List ℕ → Result ℕ Refusal → List ℕ → Type 0
+OldFolded d r new = After (old_read d) d (FoldsOf (walked first) (old_elements d) d) r new
 
-abbrev pub OldJudged : List ℕ → Judgement → Type 0
-OldJudged d j = After Refused (old_read d) tt (ReportsOf (walked first) (old_elements d)) j tt
+abbrev pub OldJudged : List ℕ → Result Report Refusal → Type 0
+OldJudged d j = After (old_read d) tt (ReportsOf (walked first) (old_elements d)) j tt
 
 -- for a combining number: 1 to 6, then 11
-unfoldable pub old_asked : List ℕ → ℕ → Reply
+unfoldable pub old_asked : List ℕ → ℕ → Result ℕ Refusal
 old_asked d c = and_then (old_read d) (combining_for d c)
 
-abbrev pub OldFoldedFor : ℕ → List ℕ → Reply → List ℕ → Type 0
-OldFoldedFor c d r new = After reply.Refused (old_asked d c) d (FoldsOf (by_rules (combining_of c)) (old_elements d) d) r new
+abbrev pub OldFoldedFor : ℕ → List ℕ → Result ℕ Refusal → List ℕ → Type 0
+OldFoldedFor c d r new = After (old_asked d c) d (FoldsOf (by_rules (combining_of c)) (old_elements d) d) r new
 
-abbrev pub OldJudgedFor : ℕ → List ℕ → Judgement → Type 0
-OldJudgedFor c d j = After Refused (old_asked d c) tt (ReportsOf (by_rules (combining_of c)) (old_elements d)) j tt
+abbrev pub OldJudgedFor : ℕ → List ℕ → Result Report Refusal → Type 0
+OldJudgedFor c d j = After (old_asked d c) tt (ReportsOf (by_rules (combining_of c)) (old_elements d)) j tt
 
 -- ---- old and new
 
 -- the old reader accepts the dossier
 abbrev pub OldSound : List ℕ → Type 0
-OldSound d = (n : ℕ) × (old_read d ≡ reply.Count n)
+OldSound d = (n : ℕ) × (old_read d ≡ Ok n)
 
 -- record k is the first of depth 64
 pub record First64 (d : List ℕ) (k : ℕ) : Type 0 where
@@ -107,10 +105,10 @@ pub record Stored : Type 0 where
   -- the lister writes the same rules
   pub lists : (d area : List ℕ) → OldSound d → (list_reply d area ≡ old_list_reply d area) × (list_area d area ≡ old_list_area d area)
   -- the folder writes the same marks and replies the same count, by the walk and for each combining number
-  pub folds : (d : List ℕ) (r : Reply) (new : List ℕ) → OldSound d → Folded d r new ↔ OldFolded d r new
-  pub folds_for : (c : ℕ) (d : List ℕ) (r : Reply) (new : List ℕ) → OldSound d → FoldedFor c d r new ↔ OldFoldedFor c d r new
+  pub folds : (d : List ℕ) (r : Result ℕ Refusal) (new : List ℕ) → OldSound d → Folded d r new ↔ OldFolded d r new
+  pub folds_for : (c : ℕ) (d : List ℕ) (r : Result ℕ Refusal) (new : List ℕ) → OldSound d → FoldedFor c d r new ↔ OldFoldedFor c d r new
   -- the judge says the same
-  pub judges : (d : List ℕ) (j : Judgement) → OldSound d → Judged d j ↔ OldJudged d j
-  pub judges_for : (c : ℕ) (d : List ℕ) (j : Judgement) → OldSound d → JudgedFor c d j ↔ OldJudgedFor c d j
+  pub judges : (d : List ℕ) (j : Result Report Refusal) → OldSound d → Judged d j ↔ OldJudged d j
+  pub judges_for : (c : ℕ) (d : List ℕ) (j : Result Report Refusal) → OldSound d → JudgedFor c d j ↔ OldJudgedFor c d j
   -- the old reader refuses a sound dossier of the new kind with a depth over 63 by 5, at its first record of depth 64
   pub refuses : (d : List ℕ) (i : ℕ) → Sound d → i < records d → 63 < depth_at d i → (k : ℕ) × First64 d k × (old_read d ≡ refusal 5 0 k)

@@ -1,10 +1,12 @@
 -- The twelve cases tried by hand that are proved, as one table and one statement about the definitions. Document 01, "Elements tried by hand". Assumes nothing: these are definitions.
 use Rattle.std.specs.Prelude.{◌≡◌, ℕ, List, [], ◌∷◌}
-use Rattle.dossier.specs.Elements.{Mark, mn, m-, m+, m±, Element, effect_of}
+use Rattle.dossier.specs.Elements.{Element, effect_of}
+use Rattle.dossier.specs.declared.elements.Mark.{Mark}
+use Rattle.dossier.specs.declared.elements.Mark.TheVariants.{N as mn, Minus as m-, Plus as m+, PlusMinus as m±}
 use Rattle.dossier.specs.Bytes.{dossier_bytes}
 use Rattle.dossier.specs.Replies.{refusal}
 use Rattle.dossier.specs.Reading.{read_of}
-use Rattle.dossier.specs.declared.Decision.TheVariants.{Permit}
+use Rattle.dossier.specs.declared.elements.Decision.TheVariants.{Permit}
 use Rattle.marks.specs.Marks.{first}
 use Rattle.marks.specs.Walking.{walked}
 use Rattle.least.specs.Least.{count, Fold}

@@ -1,25 +1,13 @@
 -- What the functions inside the program promise each other. A reader of what it prints may skip it. Assumes nothing: these are definitions.
-use Rattle.std.specs.Prelude.{ℕ, ◌+◌, ◌*◌, ◌≤◌, List, ◌++◌, length, take}
-use Rattle.dossier.specs.Limits.{width, most_elements}
-use Rattle.dossier.specs.Elements.{effect_of}
+use Rattle.std.specs.Prelude.{ℕ, ◌+◌, ◌*◌, ◌≤◌, List, length, take}
+use Rattle.dossier.specs.Limits.{most_elements}
 use Rattle.dossier.specs.Reading.{Sound}
-use Rattle.rules.specs.Rules.{reach_of}
 use Rattle.listing.specs.Area.{listed_of}
-use Rattle.programs.specs.Printing.{decimal, effect_word}
-use Rattle.front.specs.Printing.{reach_word, Printed}
-
--- the line of a rule with these numbers
-abbrev pub line_with : ℕ → ℕ → ℕ → List ℕ
-line_with target effect reach = decimal target ++ (effect_word (effect_of effect) ++ reach_word (reach_of reach))
+use Rattle.front.specs.Printing.{Printed}
 
 -- the most bytes that are printed: a line has at most 17, and the line before them or a refusal has fewer than 80
 abbrev pub most_text : ℕ
 most_text = most_elements * 17 + 80
-
--- the areas for rules and text are large enough
-pub record Areas (rules out : List ℕ) : Type 0 where
-  pub wide : most_elements * width ≤ length rules
-  pub room : most_text ≤ length out
 
 -- a dossier is sound, and its marks list at most as many rules as a dossier may have elements
 pub record Short (d : List ℕ) : Type 0 where

@@ -1,12 +1,13 @@
 -- What the program prints. Document 01, "What is built": "one program". Assumes nothing: these are definitions.
-use Rattle.std.specs.Prelude.{◌≡◌, ℕ, List, ◌++◌, length}
+use Rattle.std.specs.Prelude.{◌≡◌, ℕ, List, ◌++◌, length, Result, Ok, Err}
 use Rattle.dossier.specs.Bytes.{joined}
-use Rattle.dossier.specs.declared.Reply.{Reply}
-use Rattle.dossier.specs.declared.Reply.TheVariants.{Count, Refused}
-use Rattle.rules.specs.Rules.{Reach, self, all, Rule}
+use Rattle.rules.specs.Rules.{Rule}
+use Rattle.rules.specs.declared.kinds.Reach.{Reach}
+use Rattle.rules.specs.declared.kinds.Reach.TheVariants.{Itself as self, All as all}
 use Rattle.listing.specs.Area.{listed_of}
 use Rattle.least.specs.Folding.{Folded}
 use Rattle.programs.specs.Printing.{ascii, decimal, ended, effect_word, refusal_text}
+use Rattle.dossier.specs.declared.Refusal.{Refusal}
 
 -- ---- the lines
 
@@ -25,13 +26,13 @@ rules_text rs = ascii "rules " ++ (ended (length rs) "\n" ++ joined line_of rs)
 -- ---- the whole
 
 -- what is printed after the folder's reply: the rules of the marks that it left, or the refusal
-abbrev pub text_after : Reply → List ℕ → List ℕ
-text_after (Count n) new = rules_text (listed_of new)
-text_after (Refused f) new = refusal_text f
+abbrev pub text_after : Result ℕ Refusal → List ℕ → List ℕ
+text_after (Ok n) new = rules_text (listed_of new)
+text_after (Err f) new = refusal_text f
 
 -- the dossier is folded, and this is printed
 pub record Printed (d text : List ℕ) : Type 0 where
-  pub reply : Reply
+  pub reply : Result ℕ Refusal
   pub new : List ℕ
   pub folded : Folded d reply new
   pub says : text ≡ text_after reply new

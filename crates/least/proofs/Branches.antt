@@ -5,10 +5,10 @@ use mathlib.Core.Path.{fun_ext}
 use Rattle.dossier.specs.Limits.{most_elements}
 use Rattle.dossier.specs.Elements.{Element}
 use Rattle.dossier.specs.Forest.{Forest, nil, size_f, forest_below, end_of}
-use Rattle.dossier.specs.declared.Decision.{Decision}
-use Rattle.dossier.specs.declared.Decision.TheVariants.{Deny, Permit, None}
+use Rattle.dossier.specs.declared.elements.Decision.{Decision}
+use Rattle.dossier.specs.declared.elements.Decision.TheVariants.{Deny, Permit, None}
 use Rattle.dossier.proofs.Positions.{from, ahead, below_in, ahead-end, ahead-stop, ahead_more}
-use Rattle.rules.specs.Combining.{Combining}
+use Rattle.rules.specs.declared.kinds.Combining.{Combining}
 use Rattle.marks.specs.Marks.{Gateway}
 use Rattle.least.specs.Prices.{wrong_cost, sums}
 use Rattle.least.specs.Inner.{gateway_of, Small, sum_at, sums_of, plus_of, best_by, branch_of}

@@ -1,8 +1,9 @@
 -- The numbers of a report say of marks exactly what holds of them. Assumes nothing.
 use Rattle.std.proofs.Common.{◌≡◌, ℕ, ◌↔◌, List, ◌∷◌, get_or, sym, refl, ap, ◌∙◌, subst, ap₂, arith}
 use mathlib.Core.List.{tail-eq_of_cons-eq}
-use Rattle.dossier.specs.Elements.{Mark, Element, decision_number, decision_of}
-use Rattle.dossier.specs.declared.Decision.{Decision}
+use Rattle.dossier.specs.Elements.{Element, decision_number, decision_of}
+use Rattle.dossier.specs.declared.elements.Mark.{Mark}
+use Rattle.dossier.specs.declared.elements.Decision.{Decision}
 use Rattle.marks.proofs.Laws.{decision_number_lem}
 use Rattle.least.specs.Least.{Answers, count}
 use Rattle.least.specs.Judging.{Holds, verdict_numbers, report_numbers, Judges}

@@ -3,9 +3,12 @@
 -- Assumes nothing: these are definitions.
 use Rattle.std.specs.Prelude.{ℕ, suc, ◌+◌, Bool, true, false, cond, nat_le}
 use Rattle.dossier.specs.Limits.{most_elements}
-use Rattle.dossier.specs.Elements.{Effect, Mark, mn, m-, m+, m±, Element}
+use Rattle.dossier.specs.Elements.{Element}
+use Rattle.dossier.specs.declared.elements.Effect.{Effect}
+use Rattle.dossier.specs.declared.elements.Mark.{Mark}
+use Rattle.dossier.specs.declared.elements.Mark.TheVariants.{N as mn, Minus as m-, Plus as m+, PlusMinus as m±}
 use Rattle.dossier.specs.Forest.{Forest, nil, node}
-use Rattle.dossier.specs.declared.Decision.{Decision}
+use Rattle.dossier.specs.declared.elements.Decision.{Decision}
 use Rattle.rules.specs.Combining.{gives}
 use Rattle.marks.specs.Marks.{Gateway}
 use Rattle.listing.specs.Listing.{cost}

@@ -1,6 +1,7 @@
 -- The digits that are printed of a number are all of its digits, and how many they are at most. Assumes nothing.
-use Rattle.std.proofs.Common.{◌≡◌, ℕ, zero, suc, ◌-◌, ◌/◌, ◌%◌, ◌^◌, ◌<◌, ◌≤◌, List, [], ◌∷◌, length, refl, ap, ◌∙◌, pow-suc, lt_of_not-le, arith, length-append, le-ltb, lt-ltb}
+use Rattle.std.proofs.Common.{◌≡◌, ℕ, zero, suc, ◌-◌, ◌/◌, ◌%◌, ◌^◌, ◌<◌, ◌≤◌, [], ◌∷◌, length, refl, ap, ◌∙◌, pow-suc, lt_of_not-le, arith, length-append, le-ltb, lt-ltb}
 use native.Mathlib.Decide.{dec_le}
+use Rattle.std.proofs.lemmas.Bool.Decides.{nat_tests}
 use Rattle.io.specs.Digits.{hex_digit_ascii, last_digits, IsDigitCount}
 use Rattle.programs.specs.Printing.{places, decimal}
 
@@ -24,16 +25,13 @@ fewest_places (suc most) n (suc (suc j)) few some l m =
     simp (le-ltb n 10 (omega (arith, above j)))
     (ap suc (fewest_places most (n / 10) (suc j) (omega arith) (omega arith) (omega arith) (λ h. rw (less j) (omega arith))))
 
-fewest_decimal : (n k : ℕ) → IsDigitCount 10 1 n k → last_digits 10 k n ≡ decimal n
+-- the digits of a number, where they are the fewest
+pub fewest_decimal : (n k : ℕ) → IsDigitCount 10 1 n k → last_digits 10 k n ≡ decimal n
 unfolding decimal
 fewest_decimal n k f = ap (λ (j : ℕ). last_digits 10 j n) (fewest_places n n k few f.0 f.1 f.2)
   where
     few : k ≤ suc n
     few = elim (dec_le k 1) [ yes one ↦ omega arith | no more ↦ omega (arith, lt_of_not-le more, f.2 (lt_of_not-le more), above (k - 1)) ]
-
--- what the digits of a number are, where they are the fewest
-pub number_text : (n k : ℕ) {t : List ℕ} → IsDigitCount 10 1 n k → t ≡ last_digits 10 k n → t ≡ decimal n
-number_text n k f e = e ∙ fewest_decimal n k f
 
 digits_length : (k n : ℕ) → length (last_digits 10 k n) ≡ k
 digits_length zero n = refl
@@ -42,11 +40,10 @@ digits_length (suc k) n = length-append (last_digits 10 k (n / 10)) (hex_digit_a
 places-most : (most k n : ℕ) → n < 10 ^ suc k → places most n ≤ suc k
 unfolding places
 places-most zero k n l = omega arith
-places-most (suc most) zero n l = simp (lt-ltb n 10 l) (omega arith)
-places-most (suc most) (suc k) n l = elim (dec_le 10 n) [
-  | yes big ↦ simp (le-ltb n 10 big) (omega (arith, places-most most k (n / 10) (omega (arith, pow-suc 10 (suc k)))))
-  | no small ↦ simp (lt-ltb n 10 (lt_of_not-le small)) (omega arith)
-]
+places-most (suc most) zero n l = grind (arith, nat_tests)
+places-most (suc most) (suc k) n l =
+    let fewer = places-most most k (n / 10) (omega (arith, pow-suc 10 (suc k))) in
+    grind (arith, nat_tests)
 
 -- a number below a power of ten has at most so many digits
 pub decimal-most : (k n : ℕ) → n < 10 ^ suc k → length (decimal n) ≤ suc k

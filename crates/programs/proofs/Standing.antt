@@ -1,37 +1,30 @@
 -- The laws of what stands for the whole input: counting on from it is counting on from the whole, and the reader replies to it as to the whole. Assumes nothing.
-use Rattle.std.proofs.Common.{◌≡◌, ℕ, ◌+◌, ◌*◌, ◌%◌, ◌<◌, ◌≤◌, List, ◌++◌, length, take, replicate, sym, refl, ap, ◌∙◌, append-nil, lt_of_not-le, arith, length-append, length-take-le, lt-ltb, ne_eqb, le-leb}
+use Rattle.std.proofs.Common.{◌≡◌, ℕ, ◌+◌, ◌*◌, ◌%◌, ◌<◌, ◌≤◌, List, ◌++◌, length, take, replicate, sym, refl, ap, ◌∙◌, append-nil, lt_of_not-le, arith, length-append, length-take-le, lt-ltb, ne_eqb}
 use native.Mathlib.Decide.{dec_le}
-use borrow.Author.Tests.{lt-leb}
+use Rattle.std.proofs.lemmas.Bool.Decides.{nat_tests}
 use lib.ListN.{length-replicate}
 use Rattle.dossier.specs.Limits.{width, most_elements}
 use Rattle.dossier.specs.Reading.{read_of}
-use Rattle.programs.specs.Standing.{stands_for, Kept, CountedOn, Gathered, Unread}
+use Rattle.programs.specs.Standing.{stands_for, Kept, CountedOn, Gathered}
 
 module _ (most : ℕ) where
   pub stands-few : (n : ℕ) → n ≤ most * width → stands_for most n ≡ n
   unfolding stands_for
-  stands-few n few = simp (le-leb n (most * width) few)
+  stands-few n few = grind (arith, nat_tests)
 
   pub stands_many : (n : ℕ) → most * width < n → stands_for most n ≡ most * width + width + n % width
   unfolding stands_for
-  stands_many n many = simp (lt-leb n (most * width) many)
+  stands_many n many = grind (arith, nat_tests)
 
   -- what stands for a length is less than two records over the most
   stands-below : (r n : ℕ) → r ≡ stands_for most n → r < most * width + 2 * width
-  stands-below r n e = elim (dec_le n (most * width)) [
-    | yes few ↦ omega (arith, stands-few n few)
-    | no other ↦ omega (arith, stands_many n (lt_of_not-le other))
-  ]
+  unfolding stands_for
+  stands-below r n e = grind (arith, nat_tests)
 
   -- counting on from what stands for a total is counting on from the total
   stands_on : (total more : ℕ) → stands_for most (stands_for most total + more) ≡ stands_for most (total + more)
-  stands_on total more = elim (dec_le total (most * width)) [
-    | yes few ↦ ap (λ (x : ℕ). stands_for most (x + more)) (stands-few total few)
-    | no other ↦ (
-        let e = stands_many total (lt_of_not-le other) in
-        stands_many (stands_for most total + more) (omega (arith, e, lt_of_not-le other))
-        ∙ (omega (arith, e) ∙ sym (stands_many (total + more) (omega (arith, lt_of_not-le other)))))
-  ]
+  unfolding stands_for
+  stands_on total more = grind (arith, nat_tests)
 
 -- ---- a dossier
 
@@ -97,9 +90,5 @@ module _ {most : ℕ} (area : List ℕ) (n : ℕ) where
         };
       }
 
-  -- nothing is promised of an area with room but what was gathered
-  pub unread_not : {was : List ℕ} → most * width + 2 * width ≤ length was → Unread most was area n
-  unread_not room = record {
-    none = λ short. let no : ⊥ = omega arith in absurd no;
-    left = λ short. let no : ⊥ = omega arith in absurd no;
-  }
+-- for the checker's search: what is read stands for an input
+pub ruleset standing = (counted_none, counted-more, gathered-all, gathered-front)

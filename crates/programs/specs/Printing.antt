@@ -3,7 +3,8 @@ use Rattle.std.specs.Prelude.{ℕ, zero, suc, ◌/◌, cond, List, [], ◌∷◌
 use Prim.Native.Char.{code}
 use Prim.Native.String.{String, [] as empty, ◌∷◌ as ◌then◌}
 use Rattle.io.specs.Digits.{last_digits}
-use Rattle.dossier.specs.Elements.{Effect, deny, permit}
+use Rattle.dossier.specs.declared.elements.Effect.{Effect}
+use Rattle.dossier.specs.declared.elements.Effect.TheVariants.{Deny as deny, Permit as permit}
 use Rattle.dossier.specs.declared.Refusal.{Refusal}
 
 -- a text as bytes
@@ -31,9 +32,6 @@ effect_word permit = ascii " permit"
 -- `refused` and its three numbers, with single spaces
 unfoldable pub refusal_text : Refusal → List ℕ
 refusal_text f = ascii "refused " ++ (ended f.number " " ++ (ended f.list " " ++ ended f.position "\n"))
-
-abbrev pub refusal_with : ℕ → ℕ → ℕ → List ℕ
-refusal_with number list position = refusal_text (record { number = number; list = list; position = position })
 
 -- the most bytes that a refusal's line has
 abbrev pub most_refusal : ℕ

@@ -1,36 +1,35 @@
 // Putting text into an area from a place on. Each function replies the place after its text; where the text does not fit, the
 // area is left as it was and the reply is the place that was given.
-ghost use Rattle.std.specs.Prelude.{◌≡◌, [], ◌∷◌, ◌++◌, ◌≤◌, length};
+// The area and the place stay apart, and an effect comes as its number, since the functions are public and keep their parameters. None of this is a
+// `Display`, since nothing proves which bytes that puts.
+ghost use Rattle.std.specs.Prelude.{◌≡◌, ◌≤◌, length};
 ghost use Rattle.dossier.specs.Elements.{effect_of};
 ghost use Rattle.dossier.specs.Replies.{area_after};
-ghost use Rattle.programs.specs.Area.{place_after, Room, Puts};
-ghost use Rattle.programs.specs.Printing.{decimal, effect_word, refusal_text, refusal_with, most_refusal};
+ghost use Rattle.programs.specs.Area.{place_after, Puts};
+ghost use Rattle.programs.specs.Printing.{decimal, effect_word, refusal_text, most_refusal};
 
-use dossier::Refusal;
+use dossier::{Effect, Refusal};
 
 // The most bytes of a refusal's line: its word, two numbers of three digits and one of twenty, and what ends them.
 const MOST_REFUSAL: usize = 37;
 
 // Puts a word.
+#[tactic(auto, using(crate::proofs::Putting::put_mid_sets), unfolding(crate::specs::Area::place_after, dossier::specs::Replies::area_after))]
 pub fn put_word(out: &mut [u8], at: usize, word: &[u8]) -> usize
     ensures place { result ≡ place_after out.old at word.now }
     ensures written { out.new ≡ area_after out.old at word.now }
 {
-    if out.len() < at {
-        return at;
+    match at.checked_add(word.len()) {
+        Some(to) if to <= out.len() => {
+            out[at..to].copy_from_slice(word);
+            to
+        }
+        _ => at,
     }
-    if out.len() - at < word.len() {
-        return at;
-    }
-    let mut i: usize = 0;
-    while i < word.len() {
-        out[at + i] = word[i];
-        i += 1;
-    }
-    at + i
 }
 
 // Puts a number in decimal.
+#[tactic(auto, using(crate::proofs::Decimals::fewest_decimal))]
 pub fn put_number(out: &mut [u8], at: usize, n: usize) -> usize
     ensures place { result ≡ place_after out.old at (decimal n) }
     ensures written { out.new ≡ area_after out.old at (decimal n) }
@@ -45,31 +44,24 @@ pub fn put_effect(out: &mut [u8], at: usize, effect: u8) -> usize
     ensures place { result ≡ place_after out.old at (effect_word (effect_of effect)) }
     ensures written { out.new ≡ area_after out.old at (effect_word (effect_of effect)) }
 {
-    if effect == 0 {
-        return put_word(out, at, b" deny");
-    }
-    put_word(out, at, b" permit")
+    let word: &[u8] = match Effect::from(effect) {
+        Effect::Deny => b" deny",
+        Effect::Permit => b" permit",
+    };
+    put_word(out, at, word)
 }
 
-// Puts a number in decimal and a byte that ends it, where there is room.
-fn put_ended(out: &mut [u8], at: usize, n: usize, end: u8) -> usize
-    requires { Room out.old at (decimal n ++ end ∷ []) }
-    ensures { Puts out.old at (decimal n ++ end ∷ []) out.new result }
-{
-    let to = put_number(out, at, n);
-    out[to] = end;
-    to + 1
-}
-
-// Puts the line of a refusal with these numbers at the front of an area that has room for the longest.
-fn write_refusal(line: &mut [u8], number: u8, list: u8, position: usize) -> usize
-    requires { most_refusal ≤ length line.old }
-    ensures { Puts line.old 0 (refusal_with number list position) line.new result }
+// Puts the line of a refusal at the front of an area that has room for the longest.
+fn write_refusal(line: &mut [u8; MOST_REFUSAL], refusal: Refusal) -> usize
+    ensures { Puts line.old 0 (refusal_text refusal) line.new result }
 {
     let named = put_word(line, 0, b"refused ");
-    let numbered = put_ended(line, named, number as usize, b' ');
-    let listed = put_ended(line, numbered, list as usize, b' ');
-    put_ended(line, listed, position, b'\n')
+    let numbered = put_number(line, named, usize::from(refusal.number));
+    let spaced = put_word(line, numbered, b" ");
+    let listed = put_number(line, spaced, usize::from(refusal.list));
+    let spaced = put_word(line, listed, b" ");
+    let placed = put_number(line, spaced, refusal.position);
+    put_word(line, placed, b"\n")
 }
 
 // Puts the line of a refusal, which is never longer than the longest.
@@ -79,6 +71,6 @@ pub fn put_refusal(out: &mut [u8], at: usize, refusal: Refusal) -> usize
     ensures within { length (refusal_text refusal) ≤ most_refusal }
 {
     let mut line = [0u8; MOST_REFUSAL];
-    let n = write_refusal(&mut line, refusal.number, refusal.list, refusal.position);
+    let n = write_refusal(&mut line, refusal);
     put_word(out, at, &line[..n])
 }

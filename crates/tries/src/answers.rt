@@ -1,166 +1,145 @@
 // What a marking answers, by the definition alone: its rules are listed, and those that apply to an element decide it, as they are combined.
+// Its effects, marks and combinings are its own and not the library's, which is what it judges.
 
-// The effect of the first of an element's own rules that applies to the element itself, or to one below it; 2 where none does.
-fn own_effect(mark: u8, decision: u8, itself: bool, below: bool) -> u8 {
-    if mark == 0 {
-        return 2;
-    }
-    if itself {
-        return decision;
-    }
-    if mark == 1 {
-        return 2;
-    }
-    if below {
-        if mark == 2 {
-            return decision;
-        }
-        return 1 - decision % 2;
-    }
-    2
+ghost use Rattle.std.specs.Prelude.{◌≤◌};
+
+use crate::tree::{Place, Tree};
+
+// What a rule says, and what an element is set to; in the order of their bytes.
+#[derive(Clone, Copy, PartialEq, Eq)]
+pub(crate) enum Effect {
+    Deny,
+    Permit,
 }
 
-// The effect of the first listed rule that applies to element i, or 2.
-fn first_effect(
-    covers: &[u8; 64],
-    order: &[u8; 8],
-    decisions: &[u8; 8],
-    marks: &[u8; 8],
-    n: usize,
-    i: usize,
-) -> u8 {
-    let mut k: usize = 0;
-    while k < n {
-        let q = wide(order[k % 8]) % 8;
-        let effect = own_effect(marks[q], decisions[q], q == i, covers[q * 8 + i % 8] == 1);
-        if effect < 2 {
-            return effect;
-        }
-        k += 1;
-    }
-    2
-}
-
-// Whether one of an element's own rules has this effect and applies to the element itself, or to one below it. A ± sets two rules:
-// its decision on self, and the opposite on all, which takes in the element itself.
-fn has_effect(mark: u8, decision: u8, itself: bool, below: bool, effect: u8) -> bool {
-    if mark == 0 {
-        return false;
-    }
-    if effect != decision {
-        if mark == 3 {
-            return below;
-        }
-        return false;
-    }
-    if mark == 2 {
-        return below;
-    }
-    itself
-}
-
-// Whether any listed rule with this effect applies to element i.
-fn any_has(
-    covers: &[u8; 64],
-    decisions: &[u8; 8],
-    marks: &[u8; 8],
-    n: usize,
-    i: usize,
-    effect: u8,
-) -> bool {
-    let mut k: usize = 0;
-    while k < n {
-        let q = k % 8;
-        let below = covers[q * 8 + i % 8] == 1;
-        if has_effect(marks[q], decisions[q], q == i, below, effect) {
-            return true;
-        }
-        k += 1;
-    }
-    false
-}
-
-// What is answered under deny overrides (1) or permit overrides (2), where a deny and where a permit applies: the one that overrides
-// where it does, else the other where that does, else 2.
-fn overriding(combining: usize, denies: bool, permits: bool) -> u8 {
-    if combining == 1 {
-        if denies {
-            return 0;
+impl Effect {
+    // The other effect.
+    fn opposite(self) -> Effect {
+        match self {
+            Effect::Deny => Effect::Permit,
+            Effect::Permit => Effect::Deny,
         }
     }
-    if permits {
-        return 1;
-    }
-    if denies {
-        return 0;
-    }
-    2
 }
 
-// What the listed rules answer for element i under this combining.
-fn answer(
-    combining: usize,
-    covers: &[u8; 64],
-    order: &[u8; 8],
-    decisions: &[u8; 8],
-    marks: &[u8; 8],
-    n: usize,
-    i: usize,
-) -> u8 {
-    if combining == 0 {
-        return first_effect(covers, order, decisions, marks, n, i);
-    }
-    let denies = any_has(covers, decisions, marks, n, i, 0);
-    let permits = any_has(covers, decisions, marks, n, i, 1);
-    overriding(combining, denies, permits)
+// A mark, `n`, `-`, `+` or `±`, by the rules that it sets; in the order of their bytes.
+#[derive(Clone, Copy, PartialEq, Eq)]
+pub(crate) enum Mark {
+    NoRule,
+    OnSelf,
+    OnAll,
+    Both,
 }
 
-// What `first_wrong` replies where every element is answered as it is set.
-pub const RIGHT: usize = 99;
-
-// The first element that is answered otherwise than it is set, times 4, plus its answer.
-pub(crate) fn first_wrong(
-    combining: usize,
-    covers: &[u8; 64],
-    order: &[u8; 8],
-    decisions: &[u8; 8],
-    marks: &[u8; 8],
-    n: usize,
-) -> usize {
-    let mut i: usize = 0;
-    while i < n {
-        let given = answer(combining, covers, order, decisions, marks, n, i);
-        if given != decisions[i % 8] {
-            return i % 8 * 4 + wide(given) % 4;
+impl Mark {
+    // A mark that differs from this one.
+    pub(crate) fn other(self) -> Mark {
+        match self {
+            Mark::NoRule => Mark::Both,
+            Mark::OnSelf => Mark::OnAll,
+            Mark::OnAll => Mark::OnSelf,
+            Mark::Both => Mark::NoRule,
         }
-        i += 1;
     }
-    RIGHT
+
+    // How many rules it sets.
+    fn rules(self) -> usize
+        ensures { result ≤ 2 }
+    {
+        match self {
+            Mark::NoRule => 0,
+            Mark::OnSelf | Mark::OnAll => 1,
+            Mark::Both => 2,
+        }
+    }
+
+    // The effect of the first of its rules, on an element with this decision, that applies to an element at this place.
+    fn first_effect(self, decision: Effect, place: Place) -> Option<Effect> {
+        match (self, place) {
+            (Mark::NoRule, _) | (_, Place::Elsewhere) | (Mark::OnSelf, Place::Below) => None,
+            (_, Place::Itself) | (Mark::OnAll, Place::Below) => Some(decision),
+            (Mark::Both, Place::Below) => Some(decision.opposite()),
+        }
+    }
+
+    // Whether one of its rules, on an element with this decision, has this effect and applies to an element at this place. A ± sets two
+    // rules: the decision on self, and the opposite on all, which takes in the element itself.
+    fn has_effect(self, decision: Effect, place: Place, effect: Effect) -> bool {
+        match (self, place) {
+            (Mark::NoRule, _) | (_, Place::Elsewhere) | (Mark::OnSelf, Place::Below) => false,
+            (Mark::Both, Place::Itself) => true,
+            (_, Place::Itself) | (Mark::OnAll, Place::Below) => effect == decision,
+            (Mark::Both, Place::Below) => effect != decision,
+        }
+    }
 }
 
-// How many rules a marking lists.
-pub(crate) fn count(marks: &[u8; 8], n: usize) -> usize {
-    let mut sum: usize = 0;
-    let mut i: usize = 0;
-    while i < n {
-        sum = sum % 16 + rules(marks[i % 8]) % 4;
-        i += 1;
-    }
-    sum
+// How the rules that apply to an element are combined; in the order of their numbers.
+#[derive(Clone, Copy, PartialEq, Eq)]
+pub(crate) enum Combining {
+    FirstApplicable,
+    DenyOverrides,
+    PermitOverrides,
 }
 
-// How many rules a mark sets.
-fn rules(mark: u8) -> usize {
-    if mark == 0 {
-        return 0;
-    }
-    if mark == 3 {
-        return 2;
-    }
-    1
+// An element that is answered otherwise than it is set, and its answer.
+#[derive(Clone, Copy, PartialEq, Eq)]
+pub(crate) struct Wrong {
+    pub(crate) position: usize,
+    pub(crate) answer: Option<Effect>,
 }
 
-// A byte as a wider number.
-fn wide(x: u8) -> usize {
-    x as usize
+// A dossier without its marks, and how its rules are combined.
+#[derive(Clone, Copy)]
+pub(crate) struct Trial<const N: usize> {
+    pub(crate) combining: Combining,
+    pub(crate) tree: Tree<N>,
+    pub(crate) decisions: [Effect; N],
+}
+
+impl<const N: usize> Trial<N> {
+    // The effect of the first listed rule that applies to the element at these places.
+    fn first_effect(&self, marks: &[Mark; N], places: &[Place; N]) -> Option<Effect> {
+        self.tree
+            .order
+            .iter()
+            .find_map(|&q| marks[q].first_effect(self.decisions[q], places[q]))
+    }
+
+    // Whether any listed rule with this effect applies to the element at these places.
+    fn any_has(&self, marks: &[Mark; N], places: &[Place; N], effect: Effect) -> bool {
+        (0..N).any(|q| marks[q].has_effect(self.decisions[q], places[q], effect))
+    }
+
+    // This effect, where any listed rule that has it applies; else the opposite, where any does.
+    fn overriding(&self, marks: &[Mark; N], places: &[Place; N], effect: Effect) -> Option<Effect> {
+        [effect, effect.opposite()]
+            .into_iter()
+            .find(|&one| self.any_has(marks, places, one))
+    }
+
+    // What the listed rules answer for the element at these places.
+    fn answer(&self, marks: &[Mark; N], places: &[Place; N]) -> Option<Effect> {
+        match self.combining {
+            Combining::FirstApplicable => self.first_effect(marks, places),
+            Combining::DenyOverrides => self.overriding(marks, places, Effect::Deny),
+            Combining::PermitOverrides => self.overriding(marks, places, Effect::Permit),
+        }
+    }
+
+    // The first element that is answered otherwise than it is set.
+    pub(crate) fn first_wrong(&self, marks: &[Mark; N]) -> Option<Wrong> {
+        for position in 0..N {
+            let answer = self.answer(marks, &self.tree.places[position]);
+            if answer != Some(self.decisions[position]) {
+                return Some(Wrong { position, answer });
+            }
+        }
+        None
+    }
+
+    // How many rules a marking lists.
+    pub(crate) fn count(&self, marks: &[Mark; N]) -> usize {
+        marks.iter().map(|mark| mark.rules()).sum()
+    }
 }

@@ -9,7 +9,14 @@ mod library;
 mod tree;
 mod turns;
 
+ghost use Rattle.std.specs.Prelude.{◌≤◌};
+
+use answers::{Combining, Mark, Trial};
+use std::{fmt, io};
+use tree::Tree;
+
 // The most elements of a dossier that is tried for first applicable; for the other combinings it is one fewer.
+// A size is a parameter of the types, which have no clause of their own, so the functions that count with it ask for `N ≤ SIZE`.
 const SIZE: usize = 7;
 
 // Of dossiers of that size every 61st marking is judged, counted on from one dossier to the next: an odd number, so that
@@ -18,13 +25,13 @@ const STRIDE: u64 = 61;
 
 // The least count of a dossier, and the first right marking that has it.
 #[derive(Clone, Copy)]
-struct Best {
+struct Best<const N: usize> {
     count: usize,
-    marks: [u8; 8],
+    marks: [Mark; N],
 }
 
-// What was tried of one size.
-#[derive(Clone, Copy)]
+// What was tried of one size. The sums stay far below where they would saturate.
+#[derive(Clone, Copy, Default)]
 struct Tally {
     dossiers: u64,
     counts: u64,
@@ -34,240 +41,123 @@ struct Tally {
     judged_otherwise: u64,
 }
 
-// A sum of tallies, far below where it would wrap.
-fn more(a: u64, b: u64) -> u64 {
-    std::num::wrapping_add_u64(a, b)
+impl Tally {
+    // Notes one dossier more, with its least count, and whether it was folded as it should be.
+    fn note_folded(&mut self, count: usize, is_so: bool) {
+        self.dossiers = self.dossiers.saturating_add(1);
+        self.counts = self.counts.saturating_add(count as u64);
+        self.folded_otherwise = self.folded_otherwise.saturating_add(u64::from(!is_so));
+    }
+
+    // Notes one marking more that was judged, and whether as it should be.
+    fn note_judged(&mut self, is_so: bool) {
+        self.judged = self.judged.saturating_add(1);
+        self.judged_otherwise = self.judged_otherwise.saturating_add(u64::from(!is_so));
+    }
 }
 
-// What is added to the number of differences.
-fn one_unless(fine: bool) -> u64 {
-    if fine { 0 } else { 1 }
+impl fmt::Display for Tally {
+    fn fmt<W: fmt::Write>(&self, f: &mut fmt::Formatter<W>) -> fmt::Result {
+        write!(
+            f,
+            "{} dossiers, least counts together {}, folded otherwise {}; {} markings judged, otherwise {}",
+            self.dossiers, self.counts, self.folded_otherwise, self.judged, self.judged_otherwise
+        )
+    }
 }
 
 // Goes through every marking in their order, and decides the elements of each that lists fewer rules than the best so far: one that
 // lists as many or more can be neither less nor the first of the least.
-fn best_of(
-    combining: usize,
-    covers: &[u8; 64],
-    order: &[u8; 8],
-    decisions: &[u8; 8],
-    n: usize,
-) -> Best {
-    let mut least: usize = 99;
-    let mut first = [0u8; 8];
-    let mut marks = [0u8; 8];
-    let mut left: usize = 65536;
-    while left > 0 {
-        let count = answers::count(&marks, n);
-        if count < least {
-            if answers::first_wrong(combining, covers, order, decisions, &marks, n)
-                == answers::RIGHT
-            {
-                least = count;
-                first = marks;
-            }
+fn best_of<const N: usize>(trial: &Trial<N>) -> Option<Best<N>> {
+    let mut best: Option<Best<N>> = None;
+    for number in 0..1 << (2 * N) {
+        let marks = trial.tree.marking(number);
+        let count = trial.count(&marks);
+        let is_less = best.as_ref().is_none_or(|best| count < best.count);
+        if is_less && trial.first_wrong(&marks).is_none() {
+            best = Some(Best { count, marks });
         }
-        let next = turns::next_digits(marks, n, 4);
-        if next.done {
-            return Best {
-                count: least,
-                marks: first,
-            };
-        }
-        marks = next.row;
-        left -= 1;
     }
-    Best {
-        count: least,
-        marks: first,
-    }
+    best
 }
 
-// Whether the folder turns a dossier whose marks are all others into the best marking, and the judge says that it is least.
-fn folds_one(combining: usize, depths: [u8; 8], decisions: [u8; 8], n: usize, best: Best) -> bool {
-    let marks = best.marks;
-    let wanted = library::bytes_of(depths, decisions, marks, n);
-    let found = library::bytes_of(depths, decisions, library::other_marks(marks), n);
-    if library::folds_so(combining, found, wanted, n, best.count) {
-        return library::judges_so(combining, wanted, n, best.count, answers::RIGHT, best.count);
-    }
-    false
-}
-
-// The tally after one dossier more.
-fn folded(tally: Tally, count: usize, fine: bool) -> Tally {
-    Tally {
-        dossiers: more(tally.dossiers, 1),
-        counts: more(tally.counts, count as u64),
-        folded_otherwise: more(tally.folded_otherwise, one_unless(fine)),
-        markings: tally.markings,
-        judged: tally.judged,
-        judged_otherwise: tally.judged_otherwise,
-    }
-}
-
-// Whether the judge says of one marking what is so.
-fn judges_one(
-    combining: usize,
-    covers: &[u8; 64],
-    order: &[u8; 8],
-    depths: [u8; 8],
-    decisions: [u8; 8],
-    marks: [u8; 8],
-    n: usize,
-    least: usize,
-) -> bool {
-    let count = answers::count(&marks, n);
-    let wrong = answers::first_wrong(combining, covers, order, &decisions, &marks, n);
-    let d = library::bytes_of(depths, decisions, marks, n);
-    library::judges_so(combining, d, n, count, wrong, least)
-}
-
-// Whether the marking of this number is judged.
-fn due(number: u64, n: usize) -> bool {
-    if n < SIZE {
-        return true;
-    }
-    number % STRIDE == 0
-}
-
-// The tally after one marking more, which was not judged.
-fn passed(tally: Tally) -> Tally {
-    Tally {
-        dossiers: tally.dossiers,
-        counts: tally.counts,
-        folded_otherwise: tally.folded_otherwise,
-        markings: more(tally.markings, 1),
-        judged: tally.judged,
-        judged_otherwise: tally.judged_otherwise,
-    }
-}
-
-// The tally after one marking more, which was judged.
-fn judged(tally: Tally, fine: bool) -> Tally {
-    Tally {
-        dossiers: tally.dossiers,
-        counts: tally.counts,
-        folded_otherwise: tally.folded_otherwise,
-        markings: more(tally.markings, 1),
-        judged: more(tally.judged, 1),
-        judged_otherwise: more(tally.judged_otherwise, one_unless(fine)),
-    }
+// Whether the marking of this number among all is judged.
+fn is_due<const N: usize>(number: u64) -> bool {
+    N < SIZE || number % STRIDE == 0
 }
 
 // Holds the judge to the markings of a dossier.
-fn judge_all(
-    combining: usize,
-    covers: &[u8; 64],
-    order: &[u8; 8],
-    depths: [u8; 8],
-    decisions: [u8; 8],
-    n: usize,
-    least: usize,
-    tally: Tally,
-) -> Tally {
-    let mut sum = tally;
-    let mut marks = [0u8; 8];
-    let mut left: usize = 65536;
-    while left > 0 {
-        if due(sum.markings, n) {
-            sum = judged(
-                sum,
-                judges_one(combining, covers, order, depths, decisions, marks, n, least),
-            );
-        } else {
-            sum = passed(sum);
+fn judge_all<const N: usize>(trial: &Trial<N>, least: usize, tally: &mut Tally) {
+    for number in 0..1 << (2 * N) {
+        if is_due::<N>(tally.markings) {
+            tally.note_judged(library::judges_so(trial, &trial.tree.marking(number), least));
         }
-        let next = turns::next_digits(marks, n, 4);
-        if next.done {
-            return sum;
-        }
-        marks = next.row;
-        left -= 1;
+        tally.markings = tally.markings.saturating_add(1);
     }
-    sum
+}
+
+// Holds the folder and the judge to a dossier. A best marking is always found, since `-` everywhere is right.
+fn try_dossier<const N: usize>(trial: &Trial<N>, tally: &mut Tally) {
+    if let Some(best) = best_of(trial) {
+        let is_so = library::folds_so(trial, &best.marks, best.count)
+            && library::judges_so(trial, &best.marks, best.count);
+        tally.note_folded(best.count, is_so);
+        judge_all(trial, best.count, tally);
+    }
 }
 
 // Every choice of decisions over one tree.
-fn try_tree(combining: usize, depths: [u8; 8], n: usize, tally: Tally) -> Tally {
-    let covers = tree::covers_of(depths, n);
-    let order = tree::order_of(&covers, n);
-    let mut sum = tally;
-    let mut decisions = [0u8; 8];
-    let mut left: usize = 256;
-    while left > 0 {
-        let best = best_of(combining, &covers, &order, &decisions, n);
-        sum = folded(
-            sum,
-            best.count,
-            folds_one(combining, depths, decisions, n, best),
-        );
-        sum = judge_all(
-            combining, &covers, &order, depths, decisions, n, best.count, sum,
-        );
-        let next = turns::next_digits(decisions, n, 2);
-        if next.done {
-            return sum;
-        }
-        decisions = next.row;
-        left -= 1;
+fn try_tree<const N: usize>(combining: Combining, tree: Tree<N>, tally: &mut Tally) {
+    for number in 0..1 << N {
+        let decisions = tree.decisions(number);
+        let trial = Trial {
+            combining,
+            tree,
+            decisions,
+        };
+        try_dossier(&trial, tally);
     }
-    sum
 }
 
-// Every tree of n elements.
-fn try_size(combining: usize, n: usize) -> Tally {
-    let mut depths = turns::first_depths();
-    let mut sum = Tally {
-        dossiers: 0,
-        counts: 0,
-        folded_otherwise: 0,
-        markings: 0,
-        judged: 0,
-        judged_otherwise: 0,
-    };
-    let mut left: usize = 1024;
-    while left > 0 {
-        sum = try_tree(combining, depths, n, sum);
-        let next = turns::next_depths(depths, n);
-        if next.done {
-            return sum;
+// Every tree of N elements.
+fn try_size<const N: usize>(combining: Combining) -> Tally
+    requires { N ≤ SIZE }
+{
+    let mut tally = Tally::default();
+    for number in 0..1 << (3 * N) {
+        if let Some(tree) = Tree::<N>::numbered(number) {
+            try_tree(combining, tree, &mut tally);
         }
-        depths = next.row;
-        left -= 1;
     }
-    sum
+    tally
 }
 
 // One line: what was tried of this size.
-fn say(heading: &[u8], n: usize, tally: Tally) {
-    io::write_all(1, heading);
-    io::print_decimal(1, n as u64);
-    io::write_all(1, b" elements: ");
-    io::print_decimal(1, tally.dossiers);
-    io::write_all(1, b" dossiers, least counts together ");
-    io::print_decimal(1, tally.counts);
-    io::write_all(1, b", folded otherwise ");
-    io::print_decimal(1, tally.folded_otherwise);
-    io::write_all(1, b"; ");
-    io::print_decimal(1, tally.judged);
-    io::write_all(1, b" markings judged, otherwise ");
-    io::print_decimal(1, tally.judged_otherwise);
-    io::write_all(1, b"\n");
+fn say(rt: &impl Print, combining: Combining, size: usize, tally: Tally) -> io::Result<()> {
+    let heading = match combining {
+        Combining::FirstApplicable => "",
+        Combining::DenyOverrides => "deny overrides, ",
+        Combining::PermitOverrides => "permit overrides, ",
+    };
+    println!(rt; "{heading}{size} elements: {tally}")
 }
 
-// Every size up to the most, a line each.
-fn try_sizes(heading: &[u8], combining: usize, most: usize) {
-    let mut n: usize = 0;
-    while n < most {
-        n += 1;
-        say(heading, n, try_size(combining, n));
+// Every combining, and of each every size up to the most: a size is a parameter of the types, so that each is named.
+fn main(rt: HostRuntime) -> io::Result<()> {
+    for combining in [
+        Combining::FirstApplicable,
+        Combining::DenyOverrides,
+        Combining::PermitOverrides,
+    ] {
+        say(&rt, combining, 1, try_size::<1>(combining))?;
+        say(&rt, combining, 2, try_size::<2>(combining))?;
+        say(&rt, combining, 3, try_size::<3>(combining))?;
+        say(&rt, combining, 4, try_size::<4>(combining))?;
+        say(&rt, combining, 5, try_size::<5>(combining))?;
+        say(&rt, combining, 6, try_size::<6>(combining))?;
+        if combining == Combining::FirstApplicable {
+            say(&rt, combining, SIZE, try_size::<SIZE>(combining))?;
+        }
     }
-}
-
-// Every combining.
-fn main() {
-    try_sizes(b"", 0, SIZE);
-    try_sizes(b"deny overrides, ", 1, SIZE - 1);
-    try_sizes(b"permit overrides, ", 2, SIZE - 1);
+    Ok(())
 }

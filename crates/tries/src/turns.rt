@@ -1,45 +1,48 @@
-// All markings, all choices of decisions and all trees, each in its turn. The last element changes fastest, so that markings come in their order.
+// All markings, all choices of decisions and all trees, each by its number. The last element changes fastest, so that markings come in their order.
 
-// A row of digits or depths, or that the last was given.
-#[derive(Clone, Copy)]
-pub struct Next {
-    pub row: [u8; 8],
-    pub done: bool,
-}
+ghost use Rattle.std.specs.Prelude.{◌<◌, ◌≤◌};
 
-// The next row of n digits below `base`, or done after the last.
-pub(crate) fn next_digits(digits: [u8; 8], n: usize, base: u8) -> Next {
-    let mut row = digits;
-    let mut i = n;
-    while i > 0 {
-        i -= 1;
-        let digit = row[i % 8] % 8;
-        if digit + 1 < base {
-            row[i % 8] = digit + 1;
-            return Next { row, done: false };
-        }
-        row[i % 8] = 0;
+use crate::SIZE;
+use crate::answers::{Effect, Mark};
+use crate::tree::Tree;
+
+// The row of N digits below BASE that has this number.
+fn digits<const N: usize, const BASE: u8>(number: usize) -> [u8; N]
+    requires { 0 < BASE }
+{
+    let base = usize::from(BASE);
+    let mut left = number;
+    let mut row = [0; N];
+    for digit in row.iter_mut().rev() {
+        *digit = (left % base) as u8;
+        left /= base;
     }
-    Next { row, done: true }
+    row
 }
 
-// The first tree: a root with n - 1 children.
-pub(crate) fn first_depths() -> [u8; 8] {
-    [0, 1, 1, 1, 1, 1, 1, 1]
-}
-
-// The next row of depths, each later one from 1 to one more than the depth before it, or done after the last.
-pub(crate) fn next_depths(depths: [u8; 8], n: usize) -> Next {
-    let mut row = depths;
-    let mut i = n;
-    while i > 1 {
-        i -= 1;
-        let depth = row[i % 8] % 8;
-        if depth < row[(i - 1) % 8] % 8 + 1 {
-            row[i % 8] = depth + 1;
-            return Next { row, done: false };
-        }
-        row[i % 8] = 1;
+impl<const N: usize> Tree<N> {
+    // The tree whose depths are the row of this number below 8; most rows are no tree's.
+    pub(crate) fn numbered(number: usize) -> Option<Self>
+        requires { N ≤ SIZE }
+    {
+        Tree::new(digits::<N, 8>(number))
     }
-    Next { row, done: true }
+
+    // The choice of decisions of this number for its elements.
+    pub(crate) fn decisions(&self, number: usize) -> [Effect; N] {
+        digits::<N, 2>(number).map(|digit| match digit {
+            0 => Effect::Deny,
+            _ => Effect::Permit,
+        })
+    }
+
+    // The marking of this number for its elements.
+    pub(crate) fn marking(&self, number: usize) -> [Mark; N] {
+        digits::<N, 4>(number).map(|digit| match digit {
+            0 => Mark::NoRule,
+            1 => Mark::OnSelf,
+            2 => Mark::OnAll,
+            _ => Mark::Both,
+        })
+    }
 }

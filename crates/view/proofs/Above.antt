@@ -3,8 +3,8 @@ use Rattle.std.proofs.Common.{◌≡◌, ℕ, zero, suc, ◌<◌, ◌≤◌, tru
 use mathlib.Core.Bool.{false≢true, and-eq-true_iff}
 use Rattle.dossier.specs.Elements.{Element}
 use Rattle.dossier.specs.Below.{deeper, covers}
-use Rattle.dossier.specs.declared.Decision.{Decision}
-use Rattle.dossier.specs.declared.Decision.TheVariants.{Permit}
+use Rattle.dossier.specs.declared.elements.Decision.{Decision}
+use Rattle.dossier.specs.declared.elements.Decision.TheVariants.{Permit}
 use Rattle.view.specs.View.{Belongs}
 
 -- element j belongs in the view of these elements, and nothing before them hides it: not all of them up to j are deeper than the limit

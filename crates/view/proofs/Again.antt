@@ -1,5 +1,5 @@
 -- Every view that isn't empty is a sound dossier, and a root that is not permitted shows nothing. Assumes nothing.
-use Rattle.std.proofs.Common.{◌≡◌, ℕ, zero, suc, ◌*◌, ◌<◌, ◌≤◌, Bool, true, false, cond, ltb, ◌≢◌, List, [], ◌∷◌, ◌++◌, map, length, get_or, take, sym, refl, ap, ◌∙◌, ⊎_elim, arith, lt-ltb}
+use Rattle.std.proofs.Common.{◌≡◌, ℕ, zero, suc, ◌*◌, ◌<◌, ◌≤◌, Bool, true, false, cond, ltb, ◌≢◌, List, [], ◌∷◌, ◌++◌, map, length, get_or, take, sym, refl, ap, ◌∙◌, ⊎_elim, arith, lt-ltb, Result, Ok, Err}
 use mathlib.Core.Bool.{and-eq-true_iff}
 use lib.ListN.{length-map}
 use lib.Seq.{take-append_seam}
@@ -10,21 +10,20 @@ use Rattle.dossier.specs.Order.{Follows, Ordered}
 use Rattle.dossier.specs.Below.{deeper, covers}
 use Rattle.dossier.specs.Replies.{refusal, After, room_for, room_by}
 use Rattle.dossier.specs.Reading.{read_of, Sound}
-use Rattle.dossier.specs.declared.Decision.TheVariants.{Permit, None}
-use Rattle.dossier.specs.declared.Reply.{Reply}
-use Rattle.dossier.specs.declared.Reply.TheVariants.{Count, Refused}
+use Rattle.dossier.specs.declared.elements.Decision.TheVariants.{Permit, None}
 use Rattle.dossier.proofs.Sounds.{counted-sound, sound-counted}
 use Rattle.dossier.proofs.Runs.{run_length}
 use Rattle.marks.specs.Marks.{first}
 use Rattle.marks.specs.Walking.{walked}
 use Rattle.view.specs.View.{IsView, Viewed, Views}
-use Rattle.view.specs.Inner.{at_first, shown_of, bytes_of}
+use Rattle.view.specs.Inner.{at_first, shown_of}
 use Rattle.view.specs.Again.{Again}
 use Rattle.view.proofs.Keeping.{keeps_unique, keeps_none}
 use Rattle.view.proofs.Passes.{few, bytes-long}
 use Rattle.view.proofs.Belongs.{shown-view}
 use Rattle.view.proofs.Places.{shown_places, places-shown, places-there, places-ordered}
 use Rattle.view.proofs.Taken.{taken-sound}
+use Rattle.dossier.specs.declared.Refusal.{Refusal}
 
 -- ---- a root that is not permitted
 
@@ -72,7 +71,6 @@ module _ (d : List ℕ) (s : Sound d) (shown : List (List ℕ)) (v : IsView d sh
   same-shown = keeps_unique v (shown-view d s)
 
   shown-long : length (joined (λ r. r) shown) ≡ length shown * width
-  unfolding bytes_of
   shown-long = rw same-shown (bytes-long d)
 
   all-hidden : get_or (walked first (elements_of d) (marks_of (elements_of d))) 0 None ≢ Permit → shown ≡ []
@@ -85,30 +83,30 @@ module _ (d : List ℕ) (s : Sound d) (shown : List (List ℕ)) (v : IsView d sh
       let sound : 0 < length shown → Sound (joined (λ r. r) shown) = λ l. rw same-shown (shown-sound d s (omega (arith, ap length same-shown))) in
       record {
         sound = sound;
-        read = λ l. sound-counted (joined (λ r. r) shown) (sound l) ∙ ap Count (omega (arith, shown-long));
+        read = λ l. sound-counted (joined (λ r. r) shown) (sound l) ∙ ap Ok (omega (arith, shown-long));
         empty = all-hidden;
       }
 
 -- ---- what was written is read again
 
 -- a count is that of the records to be written
-room-count : (m : ℕ) (area : List ℕ) {n : ℕ} → Count n ≡ room_for m area → n ≡ m
+room-count : (m : ℕ) (area : List ℕ) {n : ℕ} → Ok n ≡ room_for m area → n ≡ m
 unfolding room_by
 room-count m area {n} e = go (ltb (length area) (m * width)) e
   where
-    go : (short : Bool) → Count n ≡ cond short (refusal 8 0 0) (Count m) → n ≡ m
+    go : (short : Bool) → Ok n ≡ cond short (refusal 8 0 0) (Ok m) → n ≡ m
     go true e = let z : ◌≡◌ {A = ℕ} 0 1 = cc in let y : ⊥ = omega arith in absurd y
     go false e = cc
 
-after_again : (read : Reply) (d area : List ℕ) (n : ℕ) (new : List ℕ) → read_of d ≡ read → After Refused read area (Viewed d area) (Count n) new → 0 < n
-    → read_of (take (n * width) new) ≡ Count n
-after_again (Count k) d area n new e v l =
+after_again : (read : Result ℕ Refusal) (d area : List ℕ) (n : ℕ) (new : List ℕ) → read_of d ≡ read → After read area (Viewed d area) (Ok n) new → 0 < n
+    → read_of (take (n * width) new) ≡ Ok n
+after_again (Ok k) d area n new e v l =
     let s : Sound d = counted-sound d k e in
     let m : n ≡ length v.shown = room-count (length v.shown) area v.replied in
     let long : n * width ≡ length (joined (λ r. r) v.shown) = omega (arith, shown-long d s v.shown v.view) in
     rw (v.written, long, take-append_seam, m) ((view_again d s v.shown v.view).read (omega arith))
-after_again (Refused f) d area n new e v l = let z : ◌≡◌ {A = ℕ} 0 1 = cc v.0 in let y : ⊥ = omega arith in absurd y
+after_again (Err f) d area n new e v l = let z : ◌≡◌ {A = ℕ} 0 1 = cc v.0 in let y : ⊥ = omega arith in absurd y
 
 -- the reader reads from the area's front as many elements as the view replied
-pub views_again : (d area : List ℕ) (n : ℕ) (new : List ℕ) → Views d area (Count n) new → 0 < n → read_of (take (n * width) new) ≡ Count n
+pub views_again : (d area : List ℕ) (n : ℕ) (new : List ℕ) → Views d area (Ok n) new → 0 < n → read_of (take (n * width) new) ≡ Ok n
 views_again d area n new v l = after_again (read_of d) d area n new refl v l

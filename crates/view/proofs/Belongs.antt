@@ -1,17 +1,17 @@
 -- What is shown are the records of the elements that belong in the view. Assumes nothing.
-use Rattle.std.proofs.Common.{◌≡◌, ℕ, zero, suc, ◌+◌, ◌<◌, ◌≤◌, Bool, true, cond, List, [], ◌∷◌, sym, ap, ◌∙◌, arith, le-ltb}
+use Rattle.std.proofs.Common.{◌≡◌, ℕ, zero, suc, ◌+◌, ◌<◌, ◌≤◌, Bool, true, cond, List, [], ◌∷◌, sym, ◌∙◌, arith, le-ltb}
 use mathlib.Core.Bool.{false≢true}
-use Rattle.dossier.specs.Elements.{Element, marks_of, decision_of, decision_number}
+use Rattle.dossier.specs.Elements.{Element, marks_of}
 use Rattle.dossier.specs.Bytes.{records, run, record_at, records_of, depth_at, element_at, elements_of}
 use Rattle.dossier.specs.Below.{deeper}
 use Rattle.dossier.specs.Reading.{Sound}
-use Rattle.dossier.specs.declared.Decision.{Decision}
-use Rattle.dossier.specs.declared.Decision.TheVariants.{Permit}
+use Rattle.dossier.specs.declared.elements.Decision.{Decision}
+use Rattle.dossier.specs.declared.elements.Decision.TheVariants.{Permit}
 use Rattle.marks.specs.Marks.{first}
 use Rattle.marks.specs.Walking.{walk}
-use Rattle.marks.proofs.Laws.{decision_number_lem}
 use Rattle.view.specs.View.{Keeps, done, kept, left, IsView}
-use Rattle.view.specs.Inner.{Memory, at_first, no_limit, shows, after, shown_from, shown_of}
+use Rattle.view.specs.Inner.{at_first, no_limit, shows, after, shown_from, shown_of}
+use Rattle.view.specs.declared.Memory.{Memory}
 use Rattle.view.proofs.Keeping.{keeps_iff, keeps_shift}
 use Rattle.view.proofs.Remembering.{below-hidden, lets_in, keeps_out, Turn, passed, let-in, kept_out, turn}
 use Rattle.view.proofs.Above.{Open, hidden-first, hidden-rest, permitted-first, permitted-rest, denied_first, denied_rest}
@@ -65,14 +65,14 @@ module _ (d : List ℕ) (i n : ℕ) (m : Memory) (st : List Decision) (at : Sees
           (left (hidden-first m.limit (element_at d i) es given rest h)
           (keeps_shift (keeps_iff (hidden-rest m.limit (element_at d i) es given rest h) (ih m (sees_hidden d i at s there h)))))
       go (let-in h e) =
-          let p : given ≡ Permit = sym (decision_number_lem given) ∙ ap decision_of (sym (sees-answer d i at s there h) ∙ e) in
+          let p : given ≡ Permit = sym (sees-answer d i at s there h) ∙ e in
           by (lets_in m d i h e)
           (kept (permitted-first m.limit (element_at d i) es given rest h p)
           (keeps_shift (keeps_iff
           (λ j. permitted-rest m.limit (element_at d i) es given rest h p no_limit j (unlimited d (suc i) n j s (omega arith)))
           (ih _ (sees-next d i at s there h no_limit)))))
       go (kept_out h e) =
-          let p : given ≡ Permit → ⊥ = λ x. e (sees-answer d i at s there h ∙ ap decision_number x) in
+          let p : given ≡ Permit → ⊥ = λ x. e (sees-answer d i at s there h ∙ x) in
           by (keeps_out m d i h e)
           (left (denied_first m.limit (element_at d i) es given rest p)
           (keeps_shift (keeps_iff (denied_rest m.limit (element_at d i) es given rest h p) (ih _ (sees-next d i at s there h (depth_at d i))))))

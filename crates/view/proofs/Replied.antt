@@ -1,12 +1,10 @@
 -- What the view replies keeps its promise. Assumes nothing.
-use Rattle.std.proofs.Common.{◌≡◌, ℕ, ◌*◌, ◌≤◌, false, leb, List, length, refl, ◌∙◌, arith, le-ltb, lt-ltb, leb-false}
+use Rattle.std.proofs.Common.{◌≡◌, ℕ, ◌*◌, ◌≤◌, false, leb, List, length, refl, ◌∙◌, arith, le-ltb, lt-ltb, leb-false, Result, Ok}
 use lib.Seq.{sets}
 use Rattle.dossier.specs.Limits.{width}
 use Rattle.dossier.specs.Replies.{refusal, room_by}
 use Rattle.dossier.specs.Reading.{read_of}
 use Rattle.dossier.specs.declared.Refusal.{Refusal}
-use Rattle.dossier.specs.declared.Reply.{Reply}
-use Rattle.dossier.specs.declared.Reply.TheVariants.{Count, Refused}
 use Rattle.dossier.proofs.Sounds.{counted-sound}
 use Rattle.view.specs.View.{Views}
 use Rattle.view.specs.Inner.{shown_of, bytes_of}
@@ -14,11 +12,8 @@ use Rattle.dossier.proofs.Stores.{sets-front}
 use Rattle.view.proofs.Passes.{bytes-long}
 use Rattle.view.proofs.Belongs.{shown-view}
 
-pub refused_views : (d area : List ℕ) {f : Refusal} → read_of d ≡ Refused f → Views d area (Refused f) area
-refused_views d area e = rw e (refl, refl)
-
-module _ (d area : List ℕ) {k : ℕ} (read : read_of d ≡ Count k) where
-  pub short_views : leb (length (shown_of d) * width) (length area) ≡ false → {reply : Reply} → reply ≡ refusal 8 0 0 → Views d area reply area
+module _ (d area : List ℕ) {k : ℕ} (read : read_of d ≡ Ok k) where
+  pub short_views : leb (length (shown_of d) * width) (length area) ≡ false → {reply : Result ℕ Refusal} → reply ≡ refusal 8 0 0 → Views d area reply area
   unfolding room_by
   short_views l e = rw read (record {
     shown = shown_of d;
@@ -27,8 +22,8 @@ module _ (d area : List ℕ) {k : ℕ} (read : read_of d ≡ Count k) where
     written = rw e refl;
   })
 
-  pub copied_views : length (shown_of d) * width ≤ length area → {n : ℕ} → n ≡ length (shown_of d) → {new : List ℕ} → new ≡ sets area 0 (bytes_of (shown_of d)) → Views d area (Count n) new
-  unfolding room_by bytes_of
+  pub copied_views : length (shown_of d) * width ≤ length area → {n : ℕ} → n ≡ length (shown_of d) → {new : List ℕ} → new ≡ sets area 0 (bytes_of (shown_of d)) → Views d area (Ok n) new
+  unfolding room_by
   copied_views l {n} m e = rw read (record {
     shown = shown_of d;
     view = shown-view d (counted-sound d k read);

@@ -4,15 +4,16 @@ use Rattle.dossier.specs.Limits.{deepest}
 use Rattle.dossier.specs.Elements.{decision_number}
 use Rattle.dossier.specs.Bytes.{records, byte_of, depth_at, element_at}
 use Rattle.dossier.specs.Reading.{high_after, last_before, Sound}
-use Rattle.dossier.specs.declared.Decision.{Decision}
-use Rattle.dossier.specs.declared.Decision.TheVariants.{None}
+use Rattle.dossier.specs.declared.elements.Decision.{Decision}
+use Rattle.dossier.specs.declared.elements.Decision.TheVariants.{None}
 use Rattle.dossier.proofs.Sounds.{sound-free}
 use Rattle.marks.specs.Marks.{first_answer, first_hand}
 use Rattle.marks.specs.Walking.{above, close}
 use Rattle.marks.proofs.Opened.{close-length, close_agree}
 use Rattle.marks.proofs.Lending.{HoldsOpen, lent_answer_lem, lent_after_lem, lent_length}
-use Rattle.view.specs.Inner.{Memory, memory, at_first}
-use Rattle.view.proofs.Remembering.{answer_number, lent_by}
+use Rattle.view.specs.Inner.{memory, at_first}
+use Rattle.view.specs.declared.Memory.{Memory}
+use Rattle.view.proofs.Remembering.{answer, lent_by}
 
 pub record Sees (d : List ℕ) (i : ℕ) (m : Memory) (st : List Decision) : Type 0 where
   pub long : length m.handed ≡ suc deepest
@@ -75,7 +76,7 @@ module _ (d : List ℕ) (i : ℕ) {m : Memory} {st : List Decision} (at : Sees d
     before_above (suc k) g = get_or-take (depth_at d i) st k None g
 
     -- the answer is the walk's
-    pub sees-answer : answer_number m d i ≡ decision_number seen_answer
+    pub sees-answer : answer m d i ≡ seen_answer
     sees-answer =
         lent_answer_lem before-holds (depth_at d i) (byte_of d i 1) (byte_of d i 2) (omega (arith, before-length))
         ∙ rw (before_above (depth_at d i) (omega arith))

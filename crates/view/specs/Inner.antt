@@ -1,18 +1,15 @@
 -- What the functions inside the view promise each other. A reader of what the view promises may skip it. Assumes nothing: these are definitions.
-use Rattle.std.specs.Prelude.{ℕ, zero, suc, List, [], ◌∷◌, Bool, false, cond, replicate, nat_lt, ◌==◌}
+use Rattle.std.specs.Prelude.{ℕ, zero, suc, List, [], ◌∷◌, Bool, true, false, cond, replicate, nat_lt}
 use Rattle.dossier.specs.Limits.{deepest}
-use Rattle.dossier.specs.Elements.{decision_number}
 use Rattle.dossier.specs.Bytes.{records, byte_of, record_at, joined, depth_at}
-use Rattle.dossier.specs.declared.Decision.TheVariants.{Permit}
+use Rattle.dossier.specs.declared.elements.Decision.{Decision}
+use Rattle.dossier.specs.declared.elements.Decision.TheVariants.{Deny, Permit, None}
+use Rattle.view.specs.declared.Memory.{Memory}
 use Rattle.marks.specs.Lent.{lent_answer, lent_after}
 
--- what a pass remembers before a record: the limit, which a record exceeds in depth exactly if it lies below a hidden one; and what each open depth hands down, as far as the limit
-pub record Memory : Type 0 where
-  pub limit : ℕ
-  pub handed : List ℕ
-
+-- what a pass remembers before a record; the struct says what its fields hold
 abbrev pub memory : List ℕ → ℕ → Memory
-memory handed limit = record { limit = limit; handed = handed }
+memory handed limit = record { handed = handed; limit = limit }
 
 -- a limit deeper than every record: nothing above is hidden
 abbrev pub no_limit : ℕ
@@ -26,9 +23,15 @@ at_first = memory (replicate (suc deepest) 2) no_limit
 unfoldable pub hidden : Memory → List ℕ → ℕ → Bool
 hidden m d i = nat_lt m.limit (depth_at d i)
 
+-- is this the answer that shows
+abbrev pub permits : Decision → Bool
+permits Deny = false
+permits Permit = true
+permits None = false
+
 -- where it doesn't, does the walk answer it with permit
 unfoldable pub permitted : Memory → List ℕ → ℕ → Bool
-permitted m d i = lent_answer m.handed (depth_at d i) (byte_of d i 1) (byte_of d i 2) == decision_number Permit
+permitted m d i = permits (lent_answer m.handed (depth_at d i) (byte_of d i 1) (byte_of d i 2))
 
 -- is it shown
 unfoldable pub shows : Memory → List ℕ → ℕ → Bool
@@ -52,9 +55,5 @@ unfoldable pub shown_of : List ℕ → List (List ℕ)
 shown_of d = shown_from at_first d 0 (records d)
 
 -- the bytes of shown records
-unfoldable pub bytes_of : List (List ℕ) → List ℕ
+abbrev pub bytes_of : List (List ℕ) → List ℕ
 bytes_of rs = joined (λ r. r) rs
-
--- the bytes to be written for record i, where `b` says whether it is shown
-unfoldable pub bytes_if : Bool → List ℕ → ℕ → List ℕ
-bytes_if b d i = cond b (record_at d i) []

@@ -1,52 +1,67 @@
 // The recipient's view of a dossier.
 #![tactic(auto)]
 
-ghost use Rattle.std.specs.Prelude.{◌≡◌, ◌+◌, ◌*◌, ◌≤◌, ◌<◌, nat_le, length};
+ghost use Rattle.std.specs.Prelude.{◌≡◌, ◌*◌, ◌≤◌, ◌<◌, nat_le, length};
 ghost use Rattle.std.proofs.lemmas.List.Edits.{sets};
 ghost use Rattle.dossier.specs.Limits.{width};
 ghost use Rattle.dossier.specs.Bytes.{records, record_at};
 ghost use Rattle.view.specs.View.{Views};
-ghost use Rattle.view.specs.Inner.{memory, shows, after, shown_of, bytes_if, bytes_of};
+ghost use Rattle.view.specs.Inner.{at_first, shows, after, shown_of, bytes_of};
 
-use dossier::{Reply, WIDTH};
+use dossier::{Decision, Refusal, WIDTH};
 use marks::DEPTHS;
 
-// The number of the answer permit.
-const PERMIT: u8 = 1;
+// What a pass remembers before a record: what each open depth hands down, as far as the limit; and the limit, which a record exceeds in depth exactly if it lies below a hidden one.
+#[derive(Drop)]
+struct Memory {
+    handed: [u8; DEPTHS],
+    limit: usize,
+}
 
-// Whether record i belongs in the view. A record deeper than `limit` lies below a hidden one, and is hidden. Any other is answered by the walk, and with that the limit is lifted, or set to its depth.
-fn shown(d: &[u8], i: usize, handed: &mut [u8], limit: &mut usize) -> bool
-    requires { i < records d.now }
-    ensures { (result ≡ shows (memory handed.old limit.old) d.now i) × (memory handed.new limit.new ≡ after (memory handed.old limit.old) d.now i) }
-{
-    let at = i * WIDTH;
-    let depth = dossier::depth(d, i);
-    if depth > *limit {
-        return false;
+impl Memory {
+    // Before the first record nothing is hidden, and none is handed down.
+    fn at_first() -> Memory
+        ensures { result ≡ at_first }
+    {
+        Memory {
+            handed: [u8::from(Decision::None); DEPTHS],
+            limit: DEPTHS,
+        }
     }
-    let answer = marks::hand_on(handed, depth, d[at + 1], d[at + 2]);
-    if answer == PERMIT {
-        *limit = DEPTHS;
-        return true;
+
+    // Whether record i belongs in the view. A record deeper than the limit lies below a hidden one, and is hidden. Any other is answered by the walk, and with that the limit is lifted, or set to its depth.
+    fn shown(&mut self, d: &[u8], i: usize) -> bool
+        requires { i < records d.now }
+        ensures { (result ≡ shows self.old d.now i) × (self.new ≡ after self.old d.now i) }
+    {
+        let at = i * WIDTH;
+        let depth = dossier::depth(d, i);
+        if depth > self.limit {
+            return false;
+        }
+        match marks::hand_on(&mut self.handed, depth, d[at + 1], d[at + 2]) {
+            Decision::Permit => {
+                self.limit = DEPTHS;
+                true
+            }
+            _ => {
+                self.limit = depth;
+                false
+            }
+        }
     }
-    *limit = depth;
-    false
 }
 
 // How many records are shown.
 fn count(d: &[u8]) -> usize
     ensures { result ≡ length (shown_of d.now) }
 {
-    let n = d.len() / WIDTH;
-    let mut handed = [2u8; DEPTHS];
-    let mut limit: usize = DEPTHS;
-    let mut sum: usize = 0;
-    let mut i: usize = 0;
-    while i < n {
-        if shown(d, i, &mut handed, &mut limit) {
+    let mut memory = Memory::at_first();
+    let mut sum = 0;
+    for i in 0..d.len() / WIDTH {
+        if memory.shown(d, i) {
             sum += 1;
         }
-        i += 1;
     }
     sum
 }
@@ -55,13 +70,10 @@ fn count(d: &[u8]) -> usize
 fn has_room(d: &[u8], room: usize) -> bool
     ensures { result ≡ nat_le (length (shown_of d.now) * width) room }
 {
-    if d.len() <= room {
-        return true;
-    }
-    count(d) * WIDTH <= room
+    d.len() <= room || count(d) * WIDTH <= room
 }
 
-// Writes record i as record `to` of the area. Its bytes are all read before the first is written, so that they can move at once.
+// Writes record i as record `to` of the area. Its bytes are all read before the first is written, so that they can move at once: a copy from slice to slice asks first whether the two overlap, and takes a seventh more of the whole view.
 fn put(d: &[u8], i: usize, out: &mut [u8], to: usize)
     requires { (i < records d.now) × (to < records out.old) }
     ensures { out.new ≡ sets out.old (to * width) (record_at d.now i) }
@@ -80,47 +92,29 @@ fn put(d: &[u8], i: usize, out: &mut [u8], to: usize)
     dossier::store(out, to, bytes);
 }
 
-// The same only where the record belongs in the view; which record of the area comes next.
-fn put_if(belongs: bool, d: &[u8], i: usize, out: &mut [u8], to: usize) -> usize
-    requires { (i < records d.now) × (to * width + length (bytes_if belongs d.now i) ≤ length out.old) }
-    ensures { (result * width ≡ to * width + length (bytes_if belongs d.now i)) × (out.new ≡ sets out.old (to * width) (bytes_if belongs d.now i)) }
-{
-    if belongs {
-        put(d, i, out, to);
-        return to + 1;
-    }
-    to
-}
-
 // Writes the records that are shown to the area's front, and says how many they are.
 fn copy(d: &[u8], out: &mut [u8]) -> usize
     requires { length (shown_of d.now) * width ≤ length out.old }
     ensures { (result ≡ length (shown_of d.now)) × (out.new ≡ sets out.old 0 (bytes_of (shown_of d.now))) }
 {
-    let n = d.len() / WIDTH;
-    let mut handed = [2u8; DEPTHS];
-    let mut limit: usize = DEPTHS;
-    let mut to: usize = 0;
-    let mut i: usize = 0;
-    while i < n {
-        let belongs = shown(d, i, &mut handed, &mut limit);
-        to = put_if(belongs, d, i, &mut *out, to);
-        i += 1;
+    let mut memory = Memory::at_first();
+    let mut to = 0;
+    for i in 0..d.len() / WIDTH {
+        if memory.shown(d, i) {
+            put(d, i, out, to);
+            to += 1;
+        }
     }
     to
 }
 
 // Writes the view to the area's front and replies how many records it has; or refuses and writes nothing.
-pub fn view(d: &[u8], out: &mut [u8]) -> Reply
+pub fn view(d: &[u8], out: &mut [u8]) -> Result<usize, Refusal>
     ensures { Views d.now out.old result out.new }
 {
-    let read = dossier::read(d);
-    if let Reply::Refused(f) = read {
-        return Reply::Refused(f);
-    }
+    dossier::read(d)?;
     if !has_room(d, out.len()) {
         return dossier::refused(8, 0, 0);
     }
-    let n = copy(d, &mut *out);
-    Reply::Count(n)
+    Ok(copy(d, out))
 }

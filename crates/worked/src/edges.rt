@@ -1,92 +1,83 @@
 // The edges of the refusal table: lengths, depths, which fault of a record is told, and the limits of a walk.
-use crate::making::front;
-use crate::saying::say;
-use crate::{making, saying, walking};
+use crate::shown::{Elements, Outcome};
+use crate::{making, walking};
+use anyhow::{Context, Result};
+use dossier::{Decision, WIDTH};
+use std::alloc::Global;
+
+// Records with several faults: 5 is told before 4 and 6, and 4 before 6.
+const FAULTS: [(&str, &[[u8; WIDTH]]); 4] = [
+    ("byte 3 of 4 first", &[[0, 0, 0, 4, 0, 0, 0, 0]]),
+    ("byte 3 of 1 first", &[[0, 0, 0, 1, 0, 0, 0, 0]]),
+    (
+        "depth 1030 with mark 9 after depth 0",
+        &[[0, 0, 0, 0, 0, 0, 0, 0], [6, 0, 9, 4, 0, 0, 0, 0]],
+    ),
+    (
+        "depth 5 with decision 2 after depths 0 and 1",
+        &[
+            [0, 0, 0, 0, 0, 0, 0, 0],
+            [1, 0, 0, 0, 0, 0, 0, 0],
+            [5, 2, 0, 0, 0, 0, 0, 0],
+        ],
+    ),
+];
+
+// The depths to which chains go: past 63, which was the deepest before byte 3 was part of a depth, down to the deepest, and one too deep.
+const CHAINS: [u16; 3] = [64, 1023, 1024];
 
 // What the reader says of bytes.
-fn say_read(name: &[u8], d: &[u8]) {
-    say(name);
-    say(b": ");
-    saying::say_read(dossier::read(d));
-    say(b"\n");
+fn read(d: &[u8]) -> Outcome<Elements> {
+    Outcome(dossier::read(d).map(Elements))
 }
 
-// Elements as they are written, read.
-fn read_line(line: &[u8]) {
-    let n = making::size(line);
-    let d = making::elements(line);
-    say_read(line, front(&d, n));
+// What a walk answers the last of these records.
+fn last_answer(alloc: Global, d: &[u8]) -> Result<Outcome<Decision>> {
+    let last = walking::answers(alloc, d)?.pop();
+    Ok(Outcome(last.context("a walk over no records")?))
 }
 
-fn say_last(name: &[u8], d: &[u8]) {
-    say(name);
-    say(b", walked, the last: ");
-    saying::say_answer(walking::last_answer(d, false));
-    say(b"\n");
-}
-
-// A chain, cut and then read and walked: past depth 63, which was the deepest before byte 3 was part of a depth, down to the deepest, and one too deep.
-fn say_depths(d: &[u8]) {
-    say_read(b"depths 0 to 64", front(d, 520));
-    say_read(b"depths 0 to 1023", front(d, 8192));
-    say_read(b"depths 0 to 1024", front(d, 8200));
-    say_last(b"depths 0 to 64", front(d, 520));
-    say_last(b"depths 0 to 1023", front(d, 8192));
-    say_last(b"depths 0 to 1024", front(d, 8200));
-}
-
-fn say_chains(d: &mut [u8]) {
-    making::put_chain(d);
-    say_depths(d);
-}
-
-// The area of the chains.
-fn chains() {
-    let mut d = [0u8; 8200];
-    say_chains(&mut d);
+// Chains, read and then walked.
+fn say_chains(rt: &(impl Print + AllocGlobal)) -> Result<()> {
+    for deepest in CHAINS {
+        let d = making::chain(rt.alloc(), deepest)?;
+        println!(rt; "depths 0 to {deepest}: {}", read(&d))?;
+    }
+    for deepest in CHAINS {
+        let d = making::chain(rt.alloc(), deepest)?;
+        println!(rt;
+            "depths 0 to {deepest}, walked, the last: {}",
+            last_answer(rt.alloc(), &d)?
+        )?;
+    }
+    Ok(())
 }
 
 // A root and children, cut at these lengths and read; then as many records as a walk takes, and one more.
-fn say_lengths(d: &[u8]) {
-    say_read(b"32768 bytes", front(d, 32768));
-    say_read(b"32776 bytes", front(d, 32776));
-    say_read(b"32775 bytes", front(d, 32775));
-    say_read(b"7 bytes", front(d, 7));
-    say_read(b"0 bytes", front(d, 0));
-    say_last(b"4096 records", front(d, 32768));
-    say_last(b"4097 records", front(d, 32776));
-}
-
-fn say_flat(d: &mut [u8]) {
-    making::put_flat(d);
-    say_lengths(d);
-}
-
-// The area of the lengths.
-fn lengths() {
-    let mut d = [0u8; 32776];
-    say_flat(&mut d);
-}
-
-// Records with several faults: 5 is told before 4 and 6, and 4 before 6.
-fn faults() {
-    let deep = [0u8, 0, 0, 4, 0, 0, 0, 0];
-    say_read(b"byte 3 of 4 first", &deep);
-    let root = [0u8, 0, 0, 1, 0, 0, 0, 0];
-    say_read(b"byte 3 of 1 first", &root);
-    let marked = [0u8, 0, 0, 0, 0, 0, 0, 0, 6, 0, 9, 4, 0, 0, 0, 0];
-    say_read(b"depth 1030 with mark 9 after depth 0", &marked);
-    let set = [
-        0u8, 0, 0, 0, 0, 0, 0, 0, 1, 0, 0, 0, 0, 0, 0, 0, 5, 2, 0, 0, 0, 0, 0, 0,
-    ];
-    say_read(b"depth 5 with decision 2 after depths 0 and 1", &set);
+fn say_lengths(rt: &(impl Print + AllocGlobal)) -> Result<()> {
+    for bytes in [32768, 32776, 32775, 7, 0] {
+        let d = making::flat(rt.alloc(), bytes)?;
+        println!(rt; "{bytes} bytes: {}", read(&d))?;
+    }
+    for records in [4096, 4097] {
+        let d = making::flat(rt.alloc(), records * WIDTH)?;
+        println!(rt;
+            "{records} records, walked, the last: {}",
+            last_answer(rt.alloc(), &d)?
+        )?;
+    }
+    Ok(())
 }
 
 // What the reader and the walk say at their edges.
-pub(crate) fn edges() {
-    read_line(b"0:0 2:0");
-    read_line(b"0:0 0:0");
-    chains();
-    lengths();
-    faults();
+pub(crate) fn say_edges(rt: &(impl Print + AllocGlobal)) -> Result<()> {
+    for line in ["0:0 2:0", "0:0 0:0"] {
+        println!(rt; "{line}: {}", read(&making::elements(rt.alloc(), line)?))?;
+    }
+    say_chains(rt)?;
+    say_lengths(rt)?;
+    for (name, records) in FAULTS {
+        println!(rt; "{name}: {}", read(records.as_flattened()))?;
+    }
+    Ok(())
 }

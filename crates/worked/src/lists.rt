@@ -1,128 +1,166 @@
 // Case B's elements, decided over a house list and a recipient's: the answer and the deciding rule, or the refusal.
-use crate::making::front;
-use crate::saying::say;
-use crate::{making, saying};
+use crate::shown::{Outcome, Rule};
+use crate::{B, making};
+use anyhow::Result;
+use dossier::WIDTH;
+use rules::LAST_COMBINING;
 
-// An element decided over two lists, and by which rule.
-fn say_decided<'a>(
-    name: &[u8],
-    d: &[u8],
+// Rules on elements 0 and 1 of case B, as a list has them: deny all, permit self, and permit self with another key than the element's.
+const DENY_ALL: [u8; WIDTH] = [0, 0, 0, 1, 10, 0, 0, 0];
+
+const PERMIT_SELF: [u8; WIDTH] = [1, 0, 1, 0, 20, 0, 0, 0];
+
+const OTHER_KEY: [u8; WIDTH] = [1, 0, 1, 0, 21, 0, 0, 0];
+
+// One element of a dossier, asked over a house list and a recipient's, which are combined by this number: any, since what is refused is shown too.
+#[derive(Clone, Copy)]
+struct Asked<'a> {
+    d: &'a [u8],
     house: &'a [u8],
     recipient: &'a [u8],
     combining: usize,
     element: usize,
-) {
-    say(b"element ");
-    saying::say_number(element);
-    say(name);
-    say(b", combining ");
-    saying::say_number(combining);
-    say(b": ");
-    saying::say_answer(rules::decide(d, house, recipient, combining, element));
-    say(b" by ");
-    saying::say_rule(rules::deciding(d, house, recipient, combining, element));
-    say(b"\n");
 }
 
-// Element 1 under each combining, over lists of one rule each.
-fn decided(name: &[u8], house: [u8; 8], recipient: [u8; 8]) {
-    let b = making::elements(b"0:0 1:1 2:0");
-    let d = front(&b, 24);
-    say_decided(name, d, &house, &recipient, 0, 1);
-    say_decided(name, d, &house, &recipient, 1, 1);
-    say_decided(name, d, &house, &recipient, 2, 1);
+// What is answered, and by which rule.
+fn say_decided(rt: &impl Print, name: &str, asked: Asked) -> Result<()> {
+    let Asked {
+        d,
+        house,
+        recipient,
+        combining,
+        element,
+    } = asked;
+    println!(rt;
+        "element {element} of {name}, combining {combining}: {} by {}",
+        Outcome(rules::decide(d, house, recipient, combining, element)),
+        Rule(rules::deciding(d, house, recipient, combining, element))
+    )?;
+    Ok(())
 }
 
-// The two lists in both orders.
-pub(crate) fn deciding() {
-    let deny_all = making::rule(0, 0, 1);
-    let permit_self = making::rule(1, 1, 0);
-    decided(
-        b" of B, house 0 deny all, recipient 1 permit self",
-        deny_all,
-        permit_self,
-    );
-    decided(
-        b" of B, house 1 permit self, recipient 0 deny all",
-        permit_self,
-        deny_all,
-    );
+// Element 1 under each combining, over lists of one rule each, in both orders.
+pub(crate) fn say_deciding(rt: &(impl Print + AllocGlobal)) -> Result<()> {
+    let d = making::elements(rt.alloc(), B.line)?;
+    for (house, recipient) in [(DENY_ALL, PERMIT_SELF), (PERMIT_SELF, DENY_ALL)] {
+        let name = format!(in rt.alloc();
+            "B, house {}, recipient {}",
+            Rule(&house),
+            Rule(&recipient)
+        )?;
+        for combining in 0..=LAST_COMBINING {
+            let asked = Asked {
+                d: &d,
+                house: &house,
+                recipient: &recipient,
+                combining,
+                element: 1,
+            };
+            say_decided(rt, &name, asked)?;
+        }
+    }
+    Ok(())
 }
 
 // No rule applies; then the refusals in their order, where several hold: the elements before the lists, the first list before the
-// second, a list before the numbers, the combining number before the element asked for.
-fn say_refusing<'a>(d: &[u8], house: &'a [u8], other: &'a [u8], both: &'a [u8]) {
-    let sound = front(both, 8);
-    let cut = front(both, 1);
-    say_decided(
-        b" of B, recipient 1 permit self",
-        d,
-        front(both, 0),
-        sound,
-        0,
-        2,
-    );
-    say_decided(
-        b" of nothing, house with another key",
-        front(d, 0),
-        other,
-        sound,
-        9,
-        1,
-    );
-    say_decided(b" of B, house with another key", d, other, sound, 9, 3);
-    say_decided(
-        b" of B, house with another key, recipient of 1 byte",
-        d,
-        other,
-        cut,
-        0,
-        1,
-    );
-    say_decided(b" of B, recipient of 1 byte", d, house, cut, 9, 1);
-    say_decided(
-        b" of B, recipient with another key in its second rule",
-        d,
-        house,
-        both,
-        0,
-        1,
-    );
-    say_decided(b" of B", d, house, sound, 9, 3);
-    say_decided(b" of B", d, house, sound, 2, 3);
-}
-
-// Lists that are too long, and no whole records.
-fn say_long(d: &[u8], long: &[u8]) {
-    say_decided(
-        b" of B, house of 65537 bytes",
-        d,
-        front(long, 65537),
-        front(long, 0),
-        0,
-        1,
-    );
-    say_decided(
-        b" of B, house of 65544 bytes",
-        d,
-        front(long, 65544),
-        front(long, 0),
-        0,
-        1,
-    );
-}
-
-fn lengthy(d: &[u8]) {
-    let long = [0u8; 65544];
-    say_long(d, &long);
-}
-
-pub(crate) fn refusing() {
-    let b = making::elements(b"0:0 1:1 2:0");
-    let d = front(&b, 24);
-    let house = making::rule(0, 0, 1);
-    let other = [1u8, 0, 1, 0, 21, 0, 0, 0];
-    let both = [1u8, 0, 1, 0, 20, 0, 0, 0, 1, 0, 1, 0, 21, 0, 0, 0];
-    say_refusing(d, &house, &other, &both);
-    lengthy(d);
+// second, a list before the numbers, the combining number before the element asked for; then lists that are too long, and no whole records.
+pub(crate) fn say_refusing(rt: &(impl Print + AllocGlobal)) -> Result<()> {
+    let d = making::elements(rt.alloc(), B.line)?;
+    let not_whole = vec![in rt.alloc(); 0u8; 65537]?;
+    let too_long = vec![in rt.alloc(); 0u8; 65544]?;
+    let both = [PERMIT_SELF, OTHER_KEY];
+    // From this each question differs only in the fields that it names.
+    let usual = Asked {
+        d: &d,
+        house: &DENY_ALL,
+        recipient: &PERMIT_SELF,
+        combining: 0,
+        element: 1,
+    };
+    for (name, asked) in [
+        (
+            "B, recipient 1 permit self",
+            Asked {
+                house: &[],
+                element: 2,
+                ..usual
+            },
+        ),
+        (
+            "nothing, house with another key",
+            Asked {
+                d: &[],
+                house: &OTHER_KEY,
+                combining: 9,
+                ..usual
+            },
+        ),
+        (
+            "B, house with another key",
+            Asked {
+                house: &OTHER_KEY,
+                combining: 9,
+                element: 3,
+                ..usual
+            },
+        ),
+        (
+            "B, house with another key, recipient of 1 byte",
+            Asked {
+                house: &OTHER_KEY,
+                recipient: &[1],
+                ..usual
+            },
+        ),
+        (
+            "B, recipient of 1 byte",
+            Asked {
+                recipient: &[1],
+                combining: 9,
+                ..usual
+            },
+        ),
+        (
+            "B, recipient with another key in its second rule",
+            Asked {
+                recipient: both.as_flattened(),
+                ..usual
+            },
+        ),
+        (
+            "B",
+            Asked {
+                combining: 9,
+                element: 3,
+                ..usual
+            },
+        ),
+        (
+            "B",
+            Asked {
+                combining: 2,
+                element: 3,
+                ..usual
+            },
+        ),
+        (
+            "B, house of 65537 bytes",
+            Asked {
+                house: &not_whole,
+                recipient: &[],
+                ..usual
+            },
+        ),
+        (
+            "B, house of 65544 bytes",
+            Asked {
+                house: &too_long,
+                recipient: &[],
+                ..usual
+            },
+        ),
+    ] {
+        say_decided(rt, name, asked)?;
+    }
+    Ok(())
 }

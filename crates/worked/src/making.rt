@@ -1,102 +1,67 @@
-// Dossiers and rules, made from what is written of them on paper.
-ghost use Rattle.std.specs.Prelude.{◌≤◌, ◌≡◌, length};
+// Dossiers, made from what is written of them on paper.
+use dossier::{Effect, Mark, WIDTH};
+use std::alloc::{AllocError, Global};
+use std::io;
 
-// The digit at a place of a line, 0 past its end.
-fn digit(line: &[u8], at: usize) -> u8 {
-    if line.len() <= at {
-        return 0;
-    }
-    line[at] % 16
+// A record with the mark n, from its depth, its set decision and its key.
+fn record(depth: u16, decision: Effect, key: u32) -> [u8; WIDTH] {
+    let [low, high] = depth.to_le_bytes();
+    let [a, b, c, d] = key.to_le_bytes();
+    [low, u8::from(decision), u8::from(Mark::N), high, a, b, c, d]
 }
 
-// How many bytes the elements of a line take, of which there are at most eight.
-pub(crate) fn size(line: &[u8]) -> usize
-    ensures { result ≤ 64 }
-{
-    (line.len() / 4 + 1) % 9 * 8
+// The depth and the set decision of an element that is written as in `2:0`.
+fn element(written: &str) -> Option<(u16, Effect)> {
+    let (depth, decision) = written.split_once(':')?;
+    let decision = match decision {
+        "0" => Effect::Deny,
+        "1" => Effect::Permit,
+        _ => return None,
+    };
+    Some((depth.parse().ok()?, decision))
 }
 
-// The elements of a line such as `0:0 1:1 2:0`, with the marks n and the keys 10, 20 and so on.
-pub(crate) fn elements(line: &[u8]) -> [u8; 64]
-    ensures { length result ≡ 64 }
-{
-    let mut d = [0u8; 64];
-    let mut i: usize = 0;
-    while i < 8 {
-        let at = i * 8;
-        d[at] = digit(line, i * 4);
-        d[at + 1] = digit(line, i * 4 + 2);
-        d[at + 4] = 10 + (i as u8) * 10;
-        i += 1;
+// The elements of a line such as `0:0 1:1 2:0`, with the mark n and the keys 10, 20 and so on.
+pub(crate) fn elements(alloc: Global, line: &str) -> io::Result<Vec<u8>> {
+    let mut d = Vec::new(alloc);
+    for (written, key) in line.split(' ').zip((10..).step_by(10)) {
+        let (depth, decision) = element(written).ok_or(io::ErrorKind::InvalidInput)?;
+        d.extend_from_slice(&record(depth, decision, key))?;
     }
-    d
+    Ok(d)
 }
 
-// The first n of these bytes, or all of them.
-pub(crate) fn front(s: &[u8], n: usize) -> &[u8] {
-    if s.len() < n {
-        return s;
+// The mark that is written so, if one is.
+fn mark(written: char) -> Option<Mark> {
+    match written {
+        'n' => Some(Mark::N),
+        '-' => Some(Mark::Minus),
+        '+' => Some(Mark::Plus),
+        '±' => Some(Mark::PlusMinus),
+        _ => None,
     }
-    &s[..n]
-}
-
-// The number of the mark that starts with this byte, 4 where none does.
-fn mark(c: u8) -> u8 {
-    match c {
-        b'n' => 0,
-        b'-' => 1,
-        b'+' => 2,
-        0xC2 => 3,
-        _ => 4,
-    }
-}
-
-// Writes the mark that starts with this byte at element i, if it does and there is one: which element is next.
-fn put_mark(d: &mut [u8], i: usize, c: u8) -> usize {
-    let m = mark(c);
-    if m == 4 {
-        return i;
-    }
-    if d.len() / 8 <= i {
-        return i;
-    }
-    d[i * 8 + 2] = m;
-    i + 1
 }
 
 // Writes the marks of a line such as `+ - n`.
-pub(crate) fn put_marks(d: &mut [u8], line: &[u8]) {
-    let mut i: usize = 0;
-    let mut at: usize = 0;
-    while at < line.len() {
-        i = put_mark(d, i, line[at]);
-        at += 1;
+pub(crate) fn put_marks(d: &mut [u8], line: &str) {
+    let (records, _) = d.as_chunks_mut::<WIDTH>();
+    for (record, mark) in records.iter_mut().zip(line.chars().filter_map(mark)) {
+        record[2] = u8::from(mark);
     }
 }
 
-// A rule's bytes: its target and that one's key, its effect and its reach.
-pub(crate) fn rule(target: u8, effect: u8, reach: u8) -> [u8; 8]
-    ensures { length result ≡ 8 }
-{
-    [target, 0, effect, reach, 10 + target % 8 * 10, 0, 0, 0]
+// The bytes of a root and children below it, up to this length: all are 0 but each child's byte 0, its depth, which is 1.
+pub(crate) fn flat(alloc: Global, bytes: usize) -> Result<Vec<u8>, AllocError> {
+    (0..bytes)
+        .map(|at| u8::from(at != 0 && at % WIDTH == 0))
+        .collect(alloc)
 }
 
-// A dossier of a root and children below it, up to the end of the area.
-pub(crate) fn put_flat(d: &mut [u8]) {
-    let mut i: usize = 1;
-    while i < d.len() / 8 {
-        d[i * 8] = 1;
-        i += 1;
+// Elements each below the one before it, down to this depth.
+pub(crate) fn chain(alloc: Global, deepest: u16) -> Result<Vec<u8>, AllocError> {
+    let mut d = Vec::new(alloc);
+    for depth in 0..=deepest {
+        d.extend_from_slice(&record(depth, Effect::Deny, 0))?;
     }
-}
-
-// A dossier of elements each below the one before it, up to the end of the area.
-pub(crate) fn put_chain(d: &mut [u8]) {
-    let mut i: usize = 0;
-    while i < d.len() / 8 {
-        let low = (i % 256) as u8;
-        let high = (i / 256 % 256) as u8;
-        dossier::store(&mut *d, i, [low, 0, 0, high, 0, 0, 0, 0]);
-        i += 1;
-    }
+    Ok(d)
 }

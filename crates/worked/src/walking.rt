@@ -1,26 +1,19 @@
 // A walk over the records of a dossier.
-use crate::saying;
-use crate::saying::say;
-use dossier::{Answer, Decision};
+use dossier::{Decision, Refusal, WIDTH};
 use marks::Walk;
+use std::alloc::{AllocError, Global};
 
-// What a walk answers the last of these records; where it is to be heard, each answer is printed.
-pub(crate) fn last_answer(d: &[u8], heard: bool) -> Answer {
+// What a fresh walk answers each of these records.
+pub(crate) fn answers(
+    alloc: Global,
+    d: &[u8],
+) -> Result<Vec<Result<Decision, Refusal>>, AllocError> {
     let mut walk = Walk::fresh();
-    let mut last = Answer::Given(Decision::None);
-    let mut i: usize = 0;
-    while i < d.len() / 8 {
-        let at = i * 8;
-        let stepped = walk.step(&d[at..at + 8]);
-        let answer = stepped.answer;
-        let next = stepped.walk;
-        if heard {
-            say(b" ");
-            saying::say_answer(answer);
-        }
-        last = answer;
-        walk = next;
-        i += 1;
+    let mut answers = Vec::new(alloc);
+    for record in d.chunks_exact(WIDTH) {
+        let stepped = walk.step(record);
+        walk = stepped.walk;
+        answers.push(stepped.answer)?;
     }
-    last
+    Ok(answers)
 }

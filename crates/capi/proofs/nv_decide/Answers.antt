@@ -4,4 +4,4 @@ use Rattle.capi.specs.Packed.{packed_answer}
 use Rattle.capi.proofs.nv_decide.Goals as goal
 
 pub returns : goal.returns
-returns c = c.pack_answer.ensures ∙ ap packed_answer c.decide.ensures.replied
+returns c = c.pack.ensures ∙ ap packed_answer c.decide.ensures.replied

@@ -5,6 +5,6 @@ use Rattle.capi.proofs.nv_list.Goals as goal
 
 pub returns : goal.returns
 returns c = record {
-  replied = c.pack_reply.ensures ∙ ap packed_reply c.list.ensures.replied;
+  replied = c.pack.ensures ∙ ap packed_reply c.list.ensures.replied;
   written = c.list.ensures.written;
 }

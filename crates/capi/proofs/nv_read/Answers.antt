@@ -4,4 +4,4 @@ use Rattle.capi.specs.Packed.{packed_reply}
 use Rattle.capi.proofs.nv_read.Goals as goal
 
 pub returns : goal.returns
-returns c = c.pack_reply.ensures ∙ ap packed_reply c.read.ensures
+returns c = c.pack.ensures ∙ ap packed_reply c.read.ensures

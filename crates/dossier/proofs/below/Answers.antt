@@ -10,17 +10,17 @@ pub returns-then-lower-upper : goal.returns-then-lower-upper
 returns-then-lower-upper c = sym (covers-before _ _ _ (omega arith))
 
 pub loop-i-init : goal.loop-i-init
-loop-i-init c = (omega arith, rest-first _ _ _ _ c.if-d-lower.false c.if-lower-upper.false c.depth-shallowest.ensures)
+loop-i-init c = rest-first _ _ _ _ c.if-d-lower.false c.if-lower-upper.false c.depth-shallowest.ensures
 
 pub returns-then-depth-shallowest : goal.returns-then-depth-shallowest
 returns-then-depth-shallowest c =
     let at = c.loop-i in
-    sym (rest_stop _ _ _ at.i _ (omega arith) (omega arith) c.depth.ensures c.if-depth-shallowest.true) ∙ at.invariant.1
+    sym (rest_stop _ _ _ at.i _ (omega arith) (omega arith) c.depth.ensures c.if-depth-shallowest.true) ∙ at.invariant
 
 pub loop-i-preserved : goal.loop-i-preserved
 loop-i-preserved c =
     let at = c.loop-i in
-    (omega arith, rest-next _ _ _ at.i _ (omega arith) (omega arith) c.depth.ensures c.if-depth-shallowest.false ∙ at.invariant.1)
+    rest-next _ _ _ at.i _ (omega arith) (omega arith) c.depth.ensures c.if-depth-shallowest.false ∙ at.invariant
 
 pub returns : goal.returns
-returns c = sym (rest-last _ _ _ _ (omega arith)) ∙ c.loop-i.invariant.1
+returns c = sym (rest-last _ _ _ _ (omega arith)) ∙ c.loop-i.invariant

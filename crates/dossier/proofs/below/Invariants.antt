@@ -1,12 +1,9 @@
 -- `dossier::below` meets its contract. The invariant: what is left to read from record i on gives the answer. Assumes nothing.
-use Rattle.std.proofs.Common.{◌≡◌, ◌+◌, ◌-◌, ◌≤◌}
+use Rattle.std.proofs.Common.{◌≡◌}
 use Rattle.dossier.specs.Bytes.{elements_of}
 use Rattle.dossier.specs.Below.{covers}
 use Rattle.dossier.proofs.Covers.{deeper_from}
 use Rattle.dossier.proofs.below.Given as goal
 
 abbrev pub invariant-loop-i : goal.invariant-loop-i
-invariant-loop-i l = (l.i ≤ l.lower + 1) × (deeper_from l.d l.shallowest l.lower l.i ≡ covers (elements_of l.d) l.upper l.lower)
-
-abbrev pub decreases-loop-i : goal.decreases-loop-i
-decreases-loop-i l = l.lower + 1 - l.i
+invariant-loop-i l = (deeper_from l.d l.shallowest l.lower l.i ≡ covers (elements_of l.d) l.upper l.lower)

@@ -6,10 +6,9 @@ use Rattle.dossier.specs.Reading.{Sound}
 use Rattle.least.specs.declared.choosing.Sums.{Sums}
 use Rattle.least.specs.declared.Branch.{Branch}
 use Rattle.least.specs.declared.choosing.Chosen.{Chosen}
-use Rattle.rules.specs.Combining.{combining_of}
 use Rattle.dossier.specs.Forest.{forest_below}
 use Rattle.least.specs.Prices.{wrong_cost, sums}
-use Rattle.least.specs.Inner.{gateway_of, element_for, sum_at, plus_of, branch_of, chosen_of, Planned}
+use Rattle.least.specs.Inner.{gateway_of, element_for, sum_at, plus_of, branch_of, chosen_at, Planned}
 use Rattle.least.proofs.Branches.{Summed, start, turn, over-end, over-out, small}
 use Rattle.least.proofs.Plans.{planned-none, planned-more, planned-first}
 use Rattle.least.proofs.+best.Goals as goal
@@ -47,8 +46,8 @@ best-b-requires t c =
 -- a child's branch is summed
 summed-next : (t : ℕ) (c : After-best-b t)
     → Summed
-    (combining_of c.args.combining)
-    (element_for (combining_of c.args.combining) c.args.d.now)
+    c.args.combining
+    (element_for c.args.combining c.args.d.now)
     (records c.args.d.now)
     c.args.at
     c.best-b.result.next
@@ -58,8 +57,8 @@ summed-next t c =
     (turn _ _ _ _ _ _ c.loop-p.invariant.0 c.loop-p-test.true
     (deeper c.depth-in-loop-p.ensures c.depth.ensures c.if-depth.false))
 
-pub plus-sums-requires : goal.plus-sums-requires
-plus-sums-requires t c = small _ _ _ _ _ _ (summed-next t (goal.at.plus-sums-requires t c).After-best-b) (few-in c.requires.sound)
+pub add-sums-requires : goal.add-sums-requires
+add-sums-requires t c = small _ _ _ _ _ _ (summed-next t (goal.at.add-sums-requires t c).After-best-b) (few-in c.requires.sound)
 
 pub loop-p-smaller : goal.loop-p-smaller
 loop-p-smaller t c = omega (arith, ap (λ (b : Branch). b.next) c.best-b.ensures.summed)
@@ -68,27 +67,26 @@ pub loop-p-preserved : goal.loop-p-preserved
 loop-p-preserved t c =
     let inv = c.loop-p.invariant in
     let next = ap (λ (b : Branch). b.next) c.best-b.ensures.summed in (
-      rw c.plus-sums.ensures (summed-next t (goal.at.loop-p-preserved t c).After-best-b),
+      rw c.add-sums.ensures (summed-next t (goal.at.loop-p-preserved t c).After-best-b),
       rw c.best-b.ensures.summed (planned-more _ _ _ _ _ _ _ _ _ inv.0.passed.low (omega arith) inv.1 c.best-b.ensures.planned),
     )
 
 pub choose-chosen-requires : goal.choose-chosen-requires
 choose-chosen-requires t c =
-    let ready = c.requires in
-    (ready.sound.decisions c.args.at ready.there, small _ _ _ _ _ _ c.loop-p.invariant.0 (few-in ready.sound))
+    small _ _ _ _ _ _ c.loop-p.invariant.0 (few-in c.requires.sound)
 
 pub returns : goal.returns
 returns t c =
     let d = c.args.d.now in
     let at = c.args.at in
     let inv = c.loop-p.invariant in
-    let G = combining_of c.args.combining in
+    let G = c.args.combining in
     let over : (sum_at c.loop-p.sums ≡ sums (gateway_of G) wrong_cost (forest_below (element_for G d) (records d) at)) × (c.loop-p.p ≡ (branch_of G (element_for G d) (records d) at).next) =
     elim c.loop-p-test.branch [
       | else-loop-p-test w ↦ over-end _ _ _ _ _ _ inv.0 w.loop-p-test.false
       | then-loop-p-test+then-depth w ↦ over-out _ _ _ _ _ _ inv.0 w.loop-p-test.true (no_deeper w.depth-in-loop-p.ensures w.depth.ensures w.if-depth.true)
     ] in
-    let chosen = c.choose-chosen.ensures ∙ ap (chosen_of G (element_for G d at).decision) over.0 in
+    let chosen : c.choose-chosen.result ≡ chosen_at G (element_for G d) (records d) at = c.choose-chosen.ensures ∙ rw (c.from.ensures, over.0) in
     let planned = subst (λ (n : ℕ). Planned G (element_for G d) (records d) (at + 1) n c.args.plan.now c.loop-p.plan) over.1 inv.1 in record {
       summed = ap₂ as_branch (ap (λ (x : Chosen). x.sums) chosen) over.1;
       planned = planned-first _ _ _ _ _ _ _ _ (omega arith) (omega arith) (ap (λ (x : Chosen). x.marks) chosen) planned;

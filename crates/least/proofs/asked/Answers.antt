@@ -1,13 +1,13 @@
 -- `least::asked` meets its contract. Assumes nothing.
-use Rattle.std.proofs.Common.{sym, ◌∙◌, arith}
-use Rattle.least.proofs.Replies.{asked-count, asked_11, asked-refused}
+use Rattle.std.proofs.Common.{sym, ◌∙◌}
+use Rattle.std.proofs.lemmas.Result.{err_from_is_err_and}
+use Rattle.least.proofs.Replies.{asked-refused, asked_is}
 use Rattle.least.proofs.asked.Goals as goal
 
-pub returns-then-combining-gt-LAST_COMBINING : goal.returns-then-combining-gt-LAST_COMBINING
-returns-then-combining-gt-LAST_COMBINING c = asked_11 _ _ _ _ (sym c.read.ensures ∙ c.in-Count.is) c.if-combining-gt-LAST_COMBINING.true c.refused.ensures
+pub returns-in_err-read : goal.returns-in_err-read
+returns-in_err-read c =
+    let p = err_from_is_err_and c.from_residual.result c.from_residual.ensures.1 in
+    rw (p.1, p.2, sym (asked-refused _ c.args.combining _ (sym c.read.ensures ∙ c.in_err-read.was)))
 
-pub returns-else-combining-gt-LAST_COMBINING : goal.returns-else-combining-gt-LAST_COMBINING
-returns-else-combining-gt-LAST_COMBINING c = asked-count _ _ _ (sym c.read.ensures ∙ c.in-Count.is) (omega arith)
-
-pub returns-in-Refused : goal.returns-in-Refused
-returns-in-Refused c = asked-refused _ _ _ (sym c.read.ensures ∙ c.in-Refused.is)
+pub returns : goal.returns
+returns c = c.try_from.ensures ∙ asked_is _ _ _ (sym c.read.ensures ∙ c.in_ok-read.was)

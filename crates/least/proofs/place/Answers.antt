@@ -1,9 +1,9 @@
--- `least::place` meets its contract. The invariant: the array holds what the open depths hand down, and the marks ahead, written to the dossier so far, are the folder's marks written to the dossier. Assumes nothing.
+-- `least::place` meets its contract. Assumes nothing.
 use Rattle.least.proofs.Placing.{placing_none, placing_fits, placing_more, placing_end}
 use Rattle.least.proofs.place.Goals as goal
 
 pub loop-i-init : goal.loop-i-init
-loop-i-init c = placing_none _ _
+loop-i-init c = rw c.from-handed.ensures (placing_none _ _)
 
 pub descend-requires : goal.descend-requires
 descend-requires c =
@@ -11,9 +11,9 @@ descend-requires c =
 
 pub loop-i-preserved : goal.loop-i-preserved
 loop-i-preserved c =
-    let called = c.descend in
-    placing_more _ _ _ c.requires.0 c.requires.1 _ c.loop-i-test.true _ _ c.loop-i.invariant _ _ _ _
-    c.depth-depth.ensures c.from_above.ensures c.unpack-mark.ensures called.ensures.handed
+    rw c.from.ensures
+    (placing_more _ _ _ c.requires.0 c.requires.1 _ c.loop-i-test.true _ _ c.loop-i.invariant _ _ _ _ _
+    c.depth-depth.ensures c.from-decision.ensures c.from_above.ensures c.unpack-mark.ensures c.descend.ensures.handed)
 
 pub returns : goal.returns
 returns c = placing_end _ _ _ _ _ c.requires.0 c.loop-i-test.false c.loop-i.invariant

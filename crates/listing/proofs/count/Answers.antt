@@ -1,22 +1,24 @@
 -- `listing::count` meets its contract. The invariant: the sum so far, with what the elements from i on set, is what all set, and is at most two for each element passed. Assumes nothing.
 use Rattle.std.proofs.Common.{arith}
-use Rattle.dossier.specs.Bytes.{records, byte_of}
+use Rattle.dossier.specs.Bytes.{records}
+use Rattle.listing.specs.Inner.{mark_at}
 use Rattle.listing.proofs.Costs.{cost-most, costs-start, costs-first, costs-none}
 use Rattle.listing.proofs.count.Goals as goal
 
 pub loop-i-init : goal.loop-i-init
-loop-i-init c = (omega arith, omega arith, omega (arith, costs-start c.args.d.now))
+loop-i-init c = (omega arith, omega (arith, costs-start c.args.d.now))
 
 pub overflow_add-sum : goal.overflow_add-sum
-overflow_add-sum c = omega (arith, c.cost-sum.ensures, cost-most (byte_of c.args.d.now c.loop-i.i 2))
+overflow_add-sum c = omega (arith, c.cost-sum.ensures, cost-most c.from.result)
 
 pub loop-i-preserved : goal.loop-i-preserved
 loop-i-preserved c =
     let d = c.args.d.now in
     let i = c.loop-i.i in
     let step = costs-first d i (records d) c.loop-i-test.true in
-    let most = cost-most (byte_of d i 2) in
-    (omega arith, omega (arith, c.cost-sum.ensures), omega (arith, c.cost-sum.ensures))
+    let most = cost-most (mark_at d i) in
+    let here = rw c.from.ensures at c.cost-sum.ensures in
+    (omega (arith, here), omega (arith, here))
 
 pub returns : goal.returns
 returns c =

@@ -5,7 +5,4 @@ use Rattle.listing.proofs.Costs.{costs_from}
 use Rattle.listing.proofs.count.Given as goal
 
 abbrev pub invariant-loop-i : goal.invariant-loop-i
-invariant-loop-i l = (l.i ≤ l.n) × (l.sum ≤ 2 * l.i) × (l.sum + costs_from l.d l.i (l.n - l.i) ≡ length (listed_of l.d))
-
-abbrev pub decreases-loop-i : goal.decreases-loop-i
-decreases-loop-i l = l.n - l.i
+invariant-loop-i l = (l.sum ≤ 2 * l.i) × (l.sum + costs_from l.d l.i (l.i-end - l.i) ≡ length (listed_of l.d))

@@ -1,13 +1,22 @@
--- `marks::clear` meets its contract. The invariant: clearing what is held now from i on clears all. Assumes nothing.
-use Rattle.std.proofs.Common.{sym, refl, ◌∙◌, rules}
-use Rattle.marks.proofs.Laws.{clear-turn, clear_end}
+-- `marks::clear` meets its contract. Assumes nothing.
+use Rattle.std.proofs.Common.{◌≡◌, ◌-◌, ◌≤◌, length, drop, sym, append-nil, arith, length-drop, length-take-le, drop_of_length-le}
+use Rattle.marks.specs.Inner.{cleared}
+use Rattle.marks.proofs.Laws.{clear_end}
 use Rattle.marks.proofs.clear.Goals as goal
 
-pub loop-i-init : goal.loop-i-init
-loop-i-init c = (refl, refl)
+pub returns-then-from-handed : goal.returns-then-from-handed
+unfolding cleared
+returns-then-from-handed c =
+    let handed = c.args.handed.now in
+    let left : length (drop c.args.from handed) ≡ length handed - c.args.from = length-drop c.args.from handed in
+    let past : length (drop c.args.from handed) ≤ length handed - c.args.from = omega arith in
+    rw (
+      c.fill.ensures.after (λ y h. h),
+      c.from.ensures,
+      length-take-le (length handed - c.args.from) (drop c.args.from handed) (omega arith),
+      drop_of_length-le (drop c.args.from handed) past,
+      append-nil,
+    )
 
-pub loop-i-preserved : goal.loop-i-preserved
-loop-i-preserved c = let l = c.loop-i in (search rules, clear-turn l.handed l.i c.loop-i-test.true ∙ l.invariant.1)
-
-pub returns : goal.returns
-returns c = let l = c.loop-i in sym (clear_end l.handed l.i c.loop-i-test.false) ∙ l.invariant.1
+pub returns-else-from-handed : goal.returns-else-from-handed
+returns-else-from-handed c = sym (clear_end _ _ c.if-from-handed.false)

@@ -1,17 +1,18 @@
 -- `marks::hand_on` meets its contract. Assumes nothing.
-use Rattle.std.proofs.Common.{set, sym, ap}
+use Rattle.std.proofs.Common.{sym, ◌∙◌}
 use lib.Seq.{set_out}
 use Rattle.marks.specs.Lent.{lent_answer, lent_after}
 use Rattle.marks.proofs.hand_on.Goals as goal
+use Rattle.marks.proofs.hand_on.Goals.{then-depth-handed, else-depth-handed}
 
-pub returns-then-handed-depth : goal.returns-then-handed-depth
-unfolding lent_answer lent_after
-returns-then-handed-depth c = (c.answer_of-answer.ensures _ c.from_above-above.ensures, sym (set_out _ _ _ c.if-handed-depth.true))
+pub returns-clause-answered : goal.returns-clause-answered
+unfolding lent_answer
+returns-clause-answered c = rw (c.answer_of.ensures, c.from-mark.ensures, c.from-set.ensures, c.from_above-above.ensures)
 
-pub returns : goal.returns
-unfolding lent_answer lent_after
-returns c =
-    let a = c.args in (
-      c.answer_of-answer.ensures _ c.from_above-above.ensures,
-      ap (set a.handed.now a.depth) (c.hand_of.ensures _ c.from_above-above.ensures),
-    )
+pub returns-clause-handed : goal.returns-clause-handed
+unfolding lent_after
+returns-clause-handed c =
+    elim c.if-depth-handed.branch [
+      | then-depth-handed w ↦ w.handed-is ∙ rw (w.from.ensures, w.hand_of.ensures, c.from-mark.ensures, c.from-set.ensures, c.from_above-above.ensures)
+      | else-depth-handed w ↦ w.handed-is ∙ sym (set_out _ _ _ w.if-depth-handed.false)
+    ]

@@ -4,22 +4,19 @@ use Rattle.marks.proofs.Laws.{gathers-first, gathers_open, gathers_closed, gathe
 use Rattle.marks.proofs.hands_well.Goals as goal
 
 pub loop-i-init : goal.loop-i-init
-loop-i-init c = (omega arith, gathers-first _ _)
+loop-i-init c = gathers-first _ _
 
 pub loop-i-preserved : goal.loop-i-preserved
 loop-i-preserved c =
     let l = c.loop-i in
     let more = c.loop-i-test.true in
-    (omega arith, l.invariant.1 ∙ gathers_open _ _ c.args.handed.now l.i _ _ (omega (arith, c.requires, more)) more c.wrong_open-wrong.ensures)
-
-pub loop-i-2-init : goal.loop-i-2-init
-loop-i-2-init c = let l = c.loop-i in (omega arith, omega arith, l.invariant.1)
+    l.invariant ∙ gathers_open _ _ c.args.handed.now l.i _ _ (omega (arith, c.requires, more)) more c.wrong_open-wrong.ensures
 
 pub loop-i-2-preserved : goal.loop-i-2-preserved
 loop-i-2-preserved c =
     let l = c.loop-i-2 in
     let more = c.loop-i-2-test.true in
-    (omega arith, omega arith, l.invariant.2 ∙ gathers_closed _ _ _ l.i _ _ more l.invariant.0 (c.wrong_closed-wrong.ensures _))
+    l.invariant ∙ gathers_closed _ _ _ l.i _ _ more (omega arith) (c.wrong_closed-wrong.ensures _)
 
 pub returns : goal.returns
-returns c = let l = c.loop-i-2 in sym (l.invariant.2 ∙ gathers-all _ _ _ _ _ c.loop-i-2-test.false)
+returns c = let l = c.loop-i-2 in sym (l.invariant ∙ gathers-all _ _ _ _ _ c.loop-i-2-test.false)

@@ -1,7 +1,7 @@
--- `marks::step_in_place` meets its contract: the step is that of the walk by value, of what the walk hands down where it lies. Assumes nothing.
+-- `marks::step_in_place` meets its contract: the test for refusal 17 is exact. Assumes nothing.
 use Rattle.std.proofs.Common.{rules}
 use Rattle.marks.proofs.Determined.{steps_of}
 use Rattle.marks.proofs.step_in_place.Goals as goal
 
 pub returns : goal.returns
-returns c = steps_of _ _ _ (search rules) c.step_record-t.ensures
+returns c = steps_of _ _ _ (search rules) c.step_record.ensures

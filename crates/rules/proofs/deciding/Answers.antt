@@ -1,14 +1,16 @@
 -- `rules::deciding` meets its contract. Assumes nothing.
 use Rattle.std.proofs.Common.{sym, ◌∙◌}
 use Rattle.rules.specs.Deciding.{deciding_of}
+use Rattle.rules.proofs.Answers.{given-with, refused_with}
 use Rattle.rules.proofs.deciding.Goals as goal
 
-pub returns-in-Count : goal.returns-in-Count
+pub returns-in-Ok : goal.returns-in-Ok
 unfolding deciding_of
-returns-in-Count c =
-    c.part_at.ensures
-    ∙ simp (c.deciding_place.ensures, sym c.asked.ensures ∙ c.in-Count.is)
+returns-in-Ok c =
+    let given = given-with _ (sym c.asked.ensures ∙ c.in-Ok.is) in
+    let place = rw given.2 at c.deciding_place.ensures in
+    c.part_at.ensures ∙ simp (place, given.1)
 
-pub returns-in-Refused : goal.returns-in-Refused
+pub returns-in-Err : goal.returns-in-Err
 unfolding deciding_of
-returns-in-Refused c = simp (sym c.asked.ensures ∙ c.in-Refused.is)
+returns-in-Err c = simp (refused_with _ (sym c.asked.ensures ∙ c.in-Err.is))

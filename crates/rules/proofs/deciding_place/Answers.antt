@@ -1,22 +1,33 @@
 -- `rules::deciding_place` meets its contract: at each `return` what the passes over the two lists found. Assumes nothing.
 use Rattle.std.proofs.Common.{arith}
-use Rattle.rules.proofs.Both.{house_settles, recipient-settles, house-first, recipient-first, first-within}
+use Rattle.rules.proofs.Both.{house_settles, recipient-settles, house-first, recipient-first}
 use Rattle.rules.proofs.deciding_place.Goals as goal
 
-pub returns-then-h-count : goal.returns-then-h-count
-returns-then-h-count c = house_settles _ _ _ _ _ _ _ c.first_applying-h.ensures c.if-h-count.true
+pub returns-in-Some : goal.returns-in-Some
+returns-in-Some c =
+    let house = c.first_applying-h.ensures in
+    house_settles _ _ _ _ _ _ _ (rw c.in-Some.is at house.found) (rw c.in-Some.is at house.settled_there)
 
-pub returns-then-r-recipient : goal.returns-then-r-recipient
-returns-then-r-recipient c =
-    recipient-settles _ _ _ _ _ _ _ c.first_applying-h.ensures _ _ c.first_applying-r.ensures c.if-h-count.false c.if-r-recipient.true
+pub returns-in-Some-settled : goal.returns-in-Some-settled
+returns-in-Some-settled c =
+    let house = c.first_applying-h.ensures in
+    let recipient = c.first_applying-r.ensures in
+    recipient-settles _ _ _ _ _ _ _ (rw c.in_default.is at house.found) _ _ (rw c.in-Some-settled.is at recipient.found) (omega arith) (rw c.in-Some-settled.is at recipient.settled_there)
 
-pub returns-then-h-count-2 : goal.returns-then-h-count-2
-returns-then-h-count-2 c =
-    house-first _ _ _ _ _ _ _ c.first_applying-h.ensures _ _ c.first_applying-r.ensures c.if-h-count.false c.if-r-recipient.false c.if-h-count-2.true
+pub returns-in-Some-first : goal.returns-in-Some-first
+returns-in-Some-first c =
+    let house = c.first_applying-h.ensures in
+    let recipient = c.first_applying-r.ensures in
+    house-first _ _ _ _ _ _ _ (rw (c.in_default.is, c.in-Some-first.is) at house.found) _ _ (rw c.in_default-settled.is at recipient.found) (omega arith) (omega arith) (rw c.in-Some-first.is at house.first_there)
 
-pub overflow_add-result-2 : goal.overflow_add-result-2
-overflow_add-result-2 c = omega (arith, first-within _ _ _ _ _ _ c.first_applying-r.ensures)
+pub returns-in-Some-first-2 : goal.returns-in-Some-first-2
+returns-in-Some-first-2 c =
+    let house = c.first_applying-h.ensures in
+    let recipient = c.first_applying-r.ensures in
+    recipient-first _ _ _ _ _ _ _ (rw (c.in_default.is, c.in_default-first.is) at house.found) _ _ (rw (c.in_default-settled.is, c.in-Some-first-2.is) at recipient.found) (omega arith) (omega arith) (omega arith)
 
-pub returns : goal.returns
-returns c =
-    recipient-first _ _ _ _ _ _ _ c.first_applying-h.ensures _ _ c.first_applying-r.ensures c.if-h-count.false c.if-r-recipient.false c.if-h-count-2.false
+pub returns-in-None : goal.returns-in-None
+returns-in-None c =
+    let house = c.first_applying-h.ensures in
+    let recipient = c.first_applying-r.ensures in
+    recipient-first _ _ _ _ _ _ _ (rw (c.in_default.is, c.in_default-first.is) at house.found) _ _ (rw (c.in_default-settled.is, c.in-None.is) at recipient.found) (omega arith) (omega arith) (omega arith)

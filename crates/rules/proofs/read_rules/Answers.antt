@@ -1,5 +1,5 @@
 -- `rules::read_rules` meets its contract. The invariant: what is left to read from rule i on decides the reply. Assumes nothing.
-use Rattle.std.proofs.Common.{◌≡◌, sym, ◌∙◌, arith, le-ltb, lt-ltb, eq-eqb, ne_eqb}
+use Rattle.std.proofs.Common.{◌≡◌, sym, ◌∙◌, le-ltb, lt-ltb, eq-eqb, ne_eqb}
 use native.Mathlib.Nat.{sub-zero}
 use Rattle.rules.specs.ReadingRules.{fits_at, read_rules_of}
 use Rattle.rules.proofs.FirstFaulty.{faulty-on, faulty-here, faulty-none, fits-here}
@@ -16,7 +16,7 @@ returns-then-n-gt-MOST_BYTES c = c.refused-then-n-gt-MOST_BYTES.ensures ∙ simp
 
 pub loop-i-init : goal.loop-i-init
 unfolding read_rules_of
-loop-i-init c = (omega arith, simp (sub-zero, eq-eqb _ _ c.if-n-ne0.false, le-ltb _ _ c.if-n-gt-MOST_BYTES.false))
+loop-i-init c = simp (sub-zero, eq-eqb _ _ c.if-n-ne0.false, le-ltb _ _ c.if-n-gt-MOST_BYTES.false)
 
 -- what `fits_rule` answers is whether rule i fits
 here : (s : After-fits_rule)
@@ -28,12 +28,12 @@ here s =
 pub loop-i-preserved : goal.loop-i-preserved
 loop-i-preserved c =
     let at = c.loop-i in
-    (omega arith, sym (faulty-on _ _ _ _ at.i c.loop-i-test.true (here (goal.at.loop-i-preserved c).After-fits_rule ∙ c.if-fits_rule.true)) ∙ at.invariant.1)
+    sym (faulty-on _ _ _ _ at.i c.loop-i-test.true (here (goal.at.loop-i-preserved c).After-fits_rule ∙ c.if-not-fits_rule.false)) ∙ at.invariant
 
-pub returns-else-fits_rule : goal.returns-else-fits_rule
-returns-else-fits_rule c =
+pub returns-then-not-fits_rule : goal.returns-then-not-fits_rule
+returns-then-not-fits_rule c =
     let at = c.loop-i in
-    c.refused-else-fits_rule.ensures ∙ sym (faulty-here _ _ _ _ at.i c.loop-i-test.true (here (goal.at.returns-else-fits_rule c).After-fits_rule ∙ c.if-fits_rule.false)) ∙ at.invariant.1
+    c.refused-then-not-fits_rule.ensures ∙ sym (faulty-here _ _ _ _ at.i c.loop-i-test.true (here (goal.at.returns-then-not-fits_rule c).After-fits_rule ∙ c.if-not-fits_rule.true)) ∙ at.invariant
 
 pub returns : goal.returns
-returns c = sym (faulty-none _ _ _ _ _ c.loop-i.invariant.0 c.loop-i-test.false) ∙ c.loop-i.invariant.1
+returns c = sym (faulty-none _ _ _ _ _ c.loop-i.auto.i-end c.loop-i-test.false) ∙ c.loop-i.invariant

@@ -1,8 +1,11 @@
--- `lines::put_rule` meets its contract. Assumes nothing.
+-- `lines::put_rule` meets its contract: the parts of a line follow each other. Assumes nothing.
+use Rattle.std.proofs.Common.{rules}
+use Rattle.programs.proofs.Putting.{left_all, put_next, put_last}
 use Rattle.front.proofs.lines.put_rule.Goals as goal
 
-pub put_line-requires : goal.put_line-requires
-put_line-requires c = rw c.two-target.ensures c.requires.1
-
 pub returns : goal.returns
-returns c = rw c.two-target.ensures at c.put_line.ensures
+returns c =
+    let number = rw c.two.ensures at c.put_number-after_target.ensures in
+    let effect = c.put_effect-after_effect.ensures in
+    let after_target = put_next _ _ number.place number.written (left_all c.requires) in
+    put_last _ (search rules) (search rules) (put_next _ _ effect.place effect.written after_target)

@@ -1,6 +1,6 @@
 -- `choosing::from_other` meets its contract: in each case the mark is as good as the other three. Assumes nothing.
 use Rattle.std.proofs.Common.{◌∙◌, arith}
-use Rattle.dossier.specs.Elements.{m-, m+}
+use Rattle.dossier.specs.declared.elements.Mark.TheVariants.{Minus as m-, Plus as m+}
 use Rattle.least.specs.Inner.{by_mark}
 use Rattle.least.proofs.Prices.{priced_is}
 use Rattle.least.proofs.choosing.from_other.Goals as goal

@@ -1,21 +1,18 @@
 -- `descent::descend` meets its contract: what first applicable says, or deny overrides, with what it sees and exchanged back for permit overrides. Assumes nothing.
-use Rattle.rules.specs.Combining.{combining_of}
-use Rattle.least.proofs.Descending.{seen_few, first_descends, deny_descends}
+use Rattle.std.proofs.Common.{◌≡◌, rules, ◌∙◌}
+use Rattle.dossier.proofs.RoundTrip.{effect-back, mark-back}
+use Rattle.rules.specs.declared.kinds.Combining.TheVariants.{FirstApplicable as first_applicable}
+use Rattle.marks.specs.Lent.{lent_answer, lent_after}
 use Rattle.least.proofs.descent.descend.Goals as goal
 
-pub returns-then-combining-eq0 : goal.returns-then-combining-eq0
-returns-then-combining-eq0 c =
-    let r = first_descends _ _ _ _ _ c.if-combining-eq0.true c.hand_on.ensures.0 c.hand_on.ensures.1 in record { answered = r.0; handed = r.1 }
+pub returns-then-eq-clause-answered : goal.returns-then-eq-clause-answered
+unfolding lent_answer
+returns-then-eq-clause-answered c =
+    let first : c.args.combining ≡ first_applicable = search rules in
+    c.hand_on.ensures.answered ∙ rw (c.from.ensures, effect-back, c.from-then-eq.ensures, mark-back, first)
 
-pub denying_hand-requires : goal.denying_hand-requires
-denying_hand-requires c =
-    seen_few (combining_of c.args.combining) c.args.decision _ c.requires.1 c.exchanged_for-seen.ensures
-
-pub denying_answer-requires : goal.denying_answer-requires
-denying_answer-requires c =
-    seen_few (combining_of c.args.combining) c.args.decision _ c.requires.1 c.exchanged_for-seen.ensures
-
-pub returns : goal.returns
-returns c =
-    let r = deny_descends c.args.combining _ _ c.args.decision c.args.mark c.if-combining-eq0.false c.requires.1 c.exchanged_for-seen.ensures c.from_above-above.ensures c.denying_hand.ensures
-    c.denying_answer.ensures c.exchanged_for.ensures in record { answered = r.0; handed = r.1 }
+pub returns-then-eq-clause-handed : goal.returns-then-eq-clause-handed
+unfolding lent_after
+returns-then-eq-clause-handed c =
+    let first : c.args.combining ≡ first_applicable = search rules in
+    c.hand_on.ensures.handed ∙ rw (c.from.ensures, effect-back, c.from-then-eq.ensures, mark-back, first)

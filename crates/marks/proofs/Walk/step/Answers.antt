@@ -4,4 +4,4 @@ use Rattle.marks.proofs.Determined.{steps_of}
 use Rattle.marks.proofs.Walk.step.Goals as goal
 
 pub returns : goal.returns
-returns c = steps_of _ _ _ (search rules) c.step_record-t.ensures
+returns c = steps_of _ _ _ (search rules) c.step_record-answer.ensures

@@ -1,32 +1,19 @@
 -- `printing::write_refusal` meets its contract: the parts of the line follow each other. Assumes nothing.
-use Rattle.programs.specs.Printing.{refusal_text}
-use Rattle.programs.proofs.Putting.{left-all, left-next, left-more, left-last, left-room, last-room}
-use Rattle.programs.proofs.Words.{refusal-room}
+use Rattle.std.proofs.Common.{arith}
+use Rattle.programs.proofs.Putting.{put_next, put_last, left_all}
+use Rattle.programs.proofs.Words.{refusal_parts, refusal-room}
 use Rattle.programs.proofs.printing.write_refusal.Goals as goal
 
-pub put_ended-numbered-requires : goal.put_ended-numbered-requires
-unfolding refusal_text
-put_ended-numbered-requires c =
-    let room = refusal-room c.ranges.number c.ranges.list c.ranges.position c.requires in
-    left-room _ (left-next _ (left-all room) (c.put_word-named.ensures.place, c.put_word-named.ensures.written))
-
-pub put_ended-listed-requires : goal.put_ended-listed-requires
-unfolding refusal_text
-put_ended-listed-requires c =
-    let room = refusal-room c.ranges.number c.ranges.list c.ranges.position c.requires in
-    left-room _ (left-more (left-next _ (left-all room) (c.put_word-named.ensures.place, c.put_word-named.ensures.written)) c.put_ended-numbered.ensures)
-
-pub put_ended-requires : goal.put_ended-requires
-unfolding refusal_text
-put_ended-requires c =
-    let room = refusal-room c.ranges.number c.ranges.list c.ranges.position c.requires in
-    last-room
-    (left-more (left-more (left-next _ (left-all room) (c.put_word-named.ensures.place, c.put_word-named.ensures.written)) c.put_ended-numbered.ensures) c.put_ended-listed.ensures)
-
 pub returns : goal.returns
-unfolding refusal_text
 returns c =
-    let room = refusal-room c.ranges.number c.ranges.list c.ranges.position c.requires in
-    left-last
-    (left-more (left-more (left-next _ (left-all room) (c.put_word-named.ensures.place, c.put_word-named.ensures.written)) c.put_ended-numbered.ensures) c.put_ended-listed.ensures)
-    c.put_ended.ensures
+    let parts = refusal_parts c.args.refusal in
+    let number = rw c.from.ensures at c.put_number-numbered.ensures in
+    let list = rw c.from-2.ensures at c.put_number-listed.ensures in
+    let start = rw parts at (left_all (refusal-room c.args.line.now c.args.refusal (omega arith) (omega arith) (omega arith) (omega arith))) in
+    let named = put_next _ _ c.put_word-named.ensures.place c.put_word-named.ensures.written start in
+    let numbered = put_next _ _ number.place number.written named in
+    let spaced = put_next _ _ c.put_word-spaced.ensures.place c.put_word-spaced.ensures.written numbered in
+    let listed = put_next _ _ list.place list.written spaced in
+    let spaced_again = put_next _ _ c.put_word-spaced-2.ensures.place c.put_word-spaced-2.ensures.written listed in
+    let placed = put_next _ _ c.put_number-placed.ensures.place c.put_number-placed.ensures.written spaced_again in
+    rw parts (put_last _ c.put_word.ensures.place c.put_word.ensures.written placed)
