@@ -1,8 +1,7 @@
 // A reply packed into one number of 64 bits: what is given as it is, a refusal from 2^63 on.
-ghost use Rattle.std.specs.Prelude.{◌≡◌, ℕ, Result, Ok, Err};
+ghost use Rattle.std.specs.Prelude.{◌≡◌, refl, ℕ, Result, Ok, Err};
 ghost use Rattle.dossier.specs.declared.Refusal.{Refusal};
 ghost use Rattle.capi.specs.Packed.{packed_refusal, packed_reply, packed_answer, packed_verdict, packed_judgement};
-ghost use Rattle.capi.specs.Inner.{reply_refuses, answer_refuses, judgement_refuses};
 
 use dossier::{Decision, Refusal};
 use least::{Report, Verdict};
@@ -48,7 +47,7 @@ impl Packed for usize {
         self as u64
     }
 
-    ghost refuses = { reply_refuses };
+    ghost refuses = { λ f. refl };
 }
 
 // 0 deny, 1 permit, 2 none.
@@ -59,7 +58,7 @@ impl Packed for Decision {
         u8::from(self) as u64
     }
 
-    ghost refuses = { answer_refuses };
+    ghost refuses = { λ f. refl };
 }
 
 // The number that a verdict gives, then 0 least, 1 longer or 2 wrong, then the answer of a wrong one.
@@ -83,5 +82,5 @@ impl Packed for Report {
         (self.count as u64) % 65536 + pack_verdict(self.verdict)
     }
 
-    ghost refuses = { judgement_refuses };
+    ghost refuses = { λ f. refl };
 }
