@@ -10,8 +10,7 @@ use Rattle.dossier.specs.declared.elements.Decision.TheVariants.{Permit}
 use Rattle.marks.specs.Marks.{first}
 use Rattle.marks.specs.Walking.{walk}
 use Rattle.view.specs.View.{Keeps, done, kept, left, IsView}
-use Rattle.view.specs.Inner.{at_first, no_limit, shows, after, shown_from, shown_of}
-use Rattle.view.specs.declared.Memory.{Memory}
+use Rattle.view.specs.Inner.{Memory, at_first, no_limit, shows, after, shown_from, shown_of}
 use Rattle.view.proofs.Keeping.{keeps_iff, keeps_shift}
 use Rattle.view.proofs.Remembering.{below-hidden, lets_in, keeps_out, Turn, passed, let-in, kept_out, turn}
 use Rattle.view.proofs.Above.{Open, hidden-first, hidden-rest, permitted-first, permitted-rest, denied_first, denied_rest}

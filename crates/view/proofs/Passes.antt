@@ -1,11 +1,10 @@
 -- A pass over the records: what is shown, what is left of it from a record on, and what one record adds. Assumes nothing.
-use Rattle.std.proofs.Common.{◌≡◌, ℕ, zero, suc, ◌+◌, ◌-◌, ◌*◌, ◌<◌, ◌≤◌, Bool, true, false, cond, List, [], ◌∷◌, length, refl, ◌∙◌, add-one, arith, length-append}
+use Rattle.std.proofs.Common.{◌≡◌, ℕ, zero, suc, ◌+◌, ◌-◌, ◌*◌, ◌<◌, ◌≤◌, Bool, true, false, cond, List, [], ◌∷◌, length, replicate, refl, ◌∙◌, add-one, arith, length-append}
 use native.Mathlib.Nat.{sub-zero}
 use lib.Seq.{sets}
-use Rattle.dossier.specs.Limits.{width}
+use Rattle.dossier.specs.Limits.{width, deepest}
 use Rattle.dossier.specs.Bytes.{records, record_at, joined}
-use Rattle.view.specs.Inner.{at_first, shows, after, shown_from, shown_of, bytes_of}
-use Rattle.view.specs.declared.Memory.{Memory}
+use Rattle.view.specs.Inner.{Memory, memory, no_limit, at_first, shows, after, shown_from, shown_of, bytes_of}
 use Rattle.dossier.proofs.Stores.{sets_more}
 use Rattle.dossier.proofs.Widths.{record-long}
 
@@ -13,9 +12,9 @@ use Rattle.dossier.proofs.Widths.{record-long}
 unfoldable pub shown_rest : Memory → List ℕ → ℕ → List (List ℕ)
 shown_rest m d i = shown_from m d i (records d - i)
 
-pub rest-first : (d : List ℕ) {m : Memory} → m ≡ at_first → shown_rest m d 0 ≡ shown_of d
+pub rest-first : (d : List ℕ) {none limit : ℕ} → none ≡ 2 → limit ≡ no_limit → shown_rest (memory (replicate (suc deepest) none) limit) d 0 ≡ shown_of d
 unfolding shown_rest shown_of
-rest-first d e = rw (e, sub-zero)
+rest-first d e f = rw (e, f, sub-zero)
 
 pub rest-none : (m : Memory) (d : List ℕ) (i : ℕ) → records d ≤ i → shown_rest m d i ≡ []
 unfolding shown_rest shown_from

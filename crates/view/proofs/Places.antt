@@ -4,8 +4,7 @@ use Rattle.dossier.specs.Bytes.{records, record_at, depth_at, element_at}
 use Rattle.dossier.specs.Order.{Follows, Ordered}
 use Rattle.dossier.specs.Reading.{low_after, high_after, last_before, Sound}
 use Rattle.dossier.proofs.Sounds.{FreeAt, sound-free}
-use Rattle.view.specs.Inner.{at_first, shows, after, shown_from}
-use Rattle.view.specs.declared.Memory.{Memory}
+use Rattle.view.specs.Inner.{Memory, at_first, shows, after, shown_from}
 use Rattle.view.proofs.Remembering.{below-hidden, lets_in, keeps_out, Turn, passed, let-in, kept_out, turn}
 
 -- the positions of those of the n records from record i on that are shown

@@ -5,8 +5,7 @@ use Rattle.dossier.specs.Bytes.{byte_of, depth_at}
 use Rattle.dossier.specs.declared.elements.Decision.{Decision}
 use Rattle.dossier.specs.declared.elements.Decision.TheVariants.{Deny, Permit, None}
 use Rattle.marks.specs.Lent.{lent_answer, lent_after}
-use Rattle.view.specs.Inner.{memory, no_limit, hidden, permits, permitted, shows, after}
-use Rattle.view.specs.declared.Memory.{Memory}
+use Rattle.view.specs.Inner.{Memory, memory, no_limit, hidden, permits, permitted, shows, after}
 
 -- the answer that shows is permit alone
 other_permits : (a : Decision) → (a ≡ Permit → ⊥) → permits a ≡ false

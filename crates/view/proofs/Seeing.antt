@@ -11,8 +11,7 @@ use Rattle.marks.specs.Marks.{first_answer, first_hand}
 use Rattle.marks.specs.Walking.{above, close}
 use Rattle.marks.proofs.Opened.{close-length, close_agree}
 use Rattle.marks.proofs.Lending.{HoldsOpen, lent_answer_lem, lent_after_lem, lent_length}
-use Rattle.view.specs.Inner.{memory, at_first}
-use Rattle.view.specs.declared.Memory.{Memory}
+use Rattle.view.specs.Inner.{Memory, memory, at_first}
 use Rattle.view.proofs.Remembering.{answer, lent_by}
 
 pub record Sees (d : List ℕ) (i : ℕ) (m : Memory) (st : List Decision) : Type 0 where

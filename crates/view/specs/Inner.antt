@@ -4,10 +4,13 @@ use Rattle.dossier.specs.Limits.{deepest}
 use Rattle.dossier.specs.Bytes.{records, byte_of, record_at, joined, depth_at}
 use Rattle.dossier.specs.declared.elements.Decision.{Decision}
 use Rattle.dossier.specs.declared.elements.Decision.TheVariants.{Deny, Permit, None}
-use Rattle.view.specs.declared.Memory.{Memory}
 use Rattle.marks.specs.Lent.{lent_answer, lent_after}
 
--- what a pass remembers before a record; the struct says what its fields hold
+-- what a pass remembers before a record: what each open depth hands down, as far as the limit; and the limit, which a record exceeds in depth exactly if it lies below a hidden one
+pub record Memory : Type 0 where
+  pub handed : List ℕ
+  pub limit : ℕ
+
 abbrev pub memory : List ℕ → ℕ → Memory
 memory handed limit = record { handed = handed; limit = limit }
 

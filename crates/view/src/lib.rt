@@ -6,46 +6,43 @@ ghost use Rattle.std.proofs.lemmas.List.Edits.{sets};
 ghost use Rattle.dossier.specs.Limits.{width};
 ghost use Rattle.dossier.specs.Bytes.{records, record_at};
 ghost use Rattle.view.specs.View.{Views};
-ghost use Rattle.view.specs.Inner.{at_first, shows, after, shown_of, bytes_of};
+ghost use Rattle.view.specs.Inner.{memory, no_limit, shows, after, shown_of, bytes_of};
 
 use dossier::{Decision, Refusal, WIDTH};
 use marks::DEPTHS;
 
-// What a pass remembers before a record: what each open depth hands down, as far as the limit; and the limit, which a record exceeds in depth exactly if it lies below a hidden one.
-#[derive(Drop)]
-struct Memory {
-    handed: [u8; DEPTHS],
-    limit: usize,
+// A depth that a record exceeds exactly if it lies below a hidden one. What each open depth hands down, as far as the limit, stands in an
+// array beside it: in one struct with an array the compiler keeps a number in memory, and the view takes up to three tenths longer.
+#[derive(Clone, Copy)]
+struct Limit {
+    depth: usize,
 }
 
-impl Memory {
-    // Before the first record nothing is hidden, and none is handed down.
-    fn at_first() -> Memory
-        ensures { result ≡ at_first }
+impl Limit {
+    // Before the first record nothing is hidden: no record is so deep.
+    fn lifted() -> Limit
+        ensures { result.depth ≡ no_limit }
     {
-        Memory {
-            handed: [u8::from(Decision::None); DEPTHS],
-            limit: DEPTHS,
-        }
+        Limit { depth: DEPTHS }
     }
 
     // Whether record i belongs in the view. A record deeper than the limit lies below a hidden one, and is hidden. Any other is answered by the walk, and with that the limit is lifted, or set to its depth.
-    fn shown(&mut self, d: &[u8], i: usize) -> bool
+    fn shown(&mut self, handed: &mut [u8; DEPTHS], d: &[u8], i: usize) -> bool
         requires { i < records d.now }
-        ensures { (result ≡ shows self.old d.now i) × (self.new ≡ after self.old d.now i) }
+        ensures { (result ≡ shows (memory handed.old self.old.depth) d.now i) × (memory handed.new self.new.depth ≡ after (memory handed.old self.old.depth) d.now i) }
     {
         let at = i * WIDTH;
         let depth = dossier::depth(d, i);
-        if depth > self.limit {
+        if depth > self.depth {
             return false;
         }
-        match marks::hand_on(&mut self.handed, depth, d[at + 1], d[at + 2]) {
+        match marks::hand_on(handed, depth, d[at + 1], d[at + 2]) {
             Decision::Permit => {
-                self.limit = DEPTHS;
+                self.depth = DEPTHS;
                 true
             }
             _ => {
-                self.limit = depth;
+                self.depth = depth;
                 false
             }
         }
@@ -56,10 +53,11 @@ impl Memory {
 fn count(d: &[u8]) -> usize
     ensures { result ≡ length (shown_of d.now) }
 {
-    let mut memory = Memory::at_first();
+    let mut handed = [u8::from(Decision::None); DEPTHS];
+    let mut limit = Limit::lifted();
     let mut sum = 0;
     for i in 0..d.len() / WIDTH {
-        if memory.shown(d, i) {
+        if limit.shown(&mut handed, d, i) {
             sum += 1;
         }
     }
@@ -97,10 +95,11 @@ fn copy(d: &[u8], out: &mut [u8]) -> usize
     requires { length (shown_of d.now) * width ≤ length out.old }
     ensures { (result ≡ length (shown_of d.now)) × (out.new ≡ sets out.old 0 (bytes_of (shown_of d.now))) }
 {
-    let mut memory = Memory::at_first();
+    let mut handed = [u8::from(Decision::None); DEPTHS];
+    let mut limit = Limit::lifted();
     let mut to = 0;
     for i in 0..d.len() / WIDTH {
-        if memory.shown(d, i) {
+        if limit.shown(&mut handed, d, i) {
             put(d, i, out, to);
             to += 1;
         }

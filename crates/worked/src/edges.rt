@@ -3,7 +3,6 @@ use crate::shown::{Elements, Outcome};
 use crate::{making, walking};
 use anyhow::{Context, Result};
 use dossier::{Decision, WIDTH};
-use std::alloc::Global;
 
 // Records with several faults: 5 is told before 4 and 6, and 4 before 6.
 const FAULTS: [(&str, &[[u8; WIDTH]]); 4] = [
@@ -32,47 +31,51 @@ fn read(d: &[u8]) -> Outcome<Elements> {
 }
 
 // What a walk answers the last of these records.
-fn last_answer(alloc: Global, d: &[u8]) -> Result<Outcome<Decision>> {
-    let last = walking::answers(alloc, d)?.pop();
+fn last_answer(d: &[u8]) -> Result<Outcome<Decision>> {
+    let last = walking::last_answer(d);
     Ok(Outcome(last.context("a walk over no records")?))
 }
 
-// Chains, read and then walked.
-fn say_chains(rt: &(impl Print + AllocGlobal)) -> Result<()> {
+// A chain, cut and then read and walked. A call of its own, as the other that has a large area, so that no two of these lie on the stack at once.
+#[inline(never)]
+fn say_chains(rt: &impl Print) -> Result<()> {
+    let mut d = [0; 8200];
+    making::put_chain(&mut d);
     for deepest in CHAINS {
-        let d = making::chain(rt.alloc(), deepest)?;
-        println!(rt; "depths 0 to {deepest}: {}", read(&d))?;
+        let chain = making::front(&d, (usize::from(deepest) + 1) * WIDTH);
+        println!(rt; "depths 0 to {deepest}: {}", read(chain))?;
     }
     for deepest in CHAINS {
-        let d = making::chain(rt.alloc(), deepest)?;
+        let chain = making::front(&d, (usize::from(deepest) + 1) * WIDTH);
         println!(rt;
             "depths 0 to {deepest}, walked, the last: {}",
-            last_answer(rt.alloc(), &d)?
+            last_answer(chain)?
         )?;
     }
     Ok(())
 }
 
 // A root and children, cut at these lengths and read; then as many records as a walk takes, and one more.
-fn say_lengths(rt: &(impl Print + AllocGlobal)) -> Result<()> {
+#[inline(never)]
+fn say_lengths(rt: &impl Print) -> Result<()> {
+    let mut d = [0; 32776];
+    making::put_flat(&mut d);
     for bytes in [32768, 32776, 32775, 7, 0] {
-        let d = making::flat(rt.alloc(), bytes)?;
-        println!(rt; "{bytes} bytes: {}", read(&d))?;
+        println!(rt; "{bytes} bytes: {}", read(making::front(&d, bytes)))?;
     }
-    for records in [4096, 4097] {
-        let d = making::flat(rt.alloc(), records * WIDTH)?;
+    for records in [4096u16, 4097] {
         println!(rt;
             "{records} records, walked, the last: {}",
-            last_answer(rt.alloc(), &d)?
+            last_answer(making::front(&d, usize::from(records) * WIDTH))?
         )?;
     }
     Ok(())
 }
 
 // What the reader and the walk say at their edges.
-pub(crate) fn say_edges(rt: &(impl Print + AllocGlobal)) -> Result<()> {
+pub(crate) fn say_edges(rt: &impl Print) -> Result<()> {
     for line in ["0:0 2:0", "0:0 0:0"] {
-        println!(rt; "{line}: {}", read(&making::elements(rt.alloc(), line)?))?;
+        println!(rt; "{line}: {}", read(&making::elements(line)?))?;
     }
     say_chains(rt)?;
     say_lengths(rt)?;

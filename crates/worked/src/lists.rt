@@ -1,9 +1,10 @@
 // Case B's elements, decided over a house list and a recipient's: the answer and the deciding rule, or the refusal.
-use crate::shown::{Outcome, Rule};
+use crate::shown::{Lists, Outcome, Rule};
 use crate::{B, making};
 use anyhow::Result;
 use dossier::WIDTH;
 use rules::LAST_COMBINING;
+use std::fmt::Display;
 
 // Rules on elements 0 and 1 of case B, as a list has them: deny all, permit self, and permit self with another key than the element's.
 const DENY_ALL: [u8; WIDTH] = [0, 0, 0, 1, 10, 0, 0, 0];
@@ -23,7 +24,7 @@ struct Asked<'a> {
 }
 
 // What is answered, and by which rule.
-fn say_decided(rt: &impl Print, name: &str, asked: Asked) -> Result<()> {
+fn say_decided(rt: &impl Print, name: impl Display + Drop, asked: Asked) -> Result<()> {
     let Asked {
         d,
         house,
@@ -40,14 +41,13 @@ fn say_decided(rt: &impl Print, name: &str, asked: Asked) -> Result<()> {
 }
 
 // Element 1 under each combining, over lists of one rule each, in both orders.
-pub(crate) fn say_deciding(rt: &(impl Print + AllocGlobal)) -> Result<()> {
-    let d = making::elements(rt.alloc(), B.line)?;
+pub(crate) fn say_deciding(rt: &impl Print) -> Result<()> {
+    let d = making::elements(B.line)?;
     for (house, recipient) in [(DENY_ALL, PERMIT_SELF), (PERMIT_SELF, DENY_ALL)] {
-        let name = format!(in rt.alloc();
-            "B, house {}, recipient {}",
-            Rule(&house),
-            Rule(&recipient)
-        )?;
+        let name = Lists {
+            house: Rule(&house),
+            recipient: Rule(&recipient),
+        };
         for combining in 0..=LAST_COMBINING {
             let asked = Asked {
                 d: &d,
@@ -56,7 +56,7 @@ pub(crate) fn say_deciding(rt: &(impl Print + AllocGlobal)) -> Result<()> {
                 combining,
                 element: 1,
             };
-            say_decided(rt, &name, asked)?;
+            say_decided(rt, name, asked)?;
         }
     }
     Ok(())
@@ -64,10 +64,11 @@ pub(crate) fn say_deciding(rt: &(impl Print + AllocGlobal)) -> Result<()> {
 
 // No rule applies; then the refusals in their order, where several hold: the elements before the lists, the first list before the
 // second, a list before the numbers, the combining number before the element asked for; then lists that are too long, and no whole records.
-pub(crate) fn say_refusing(rt: &(impl Print + AllocGlobal)) -> Result<()> {
-    let d = making::elements(rt.alloc(), B.line)?;
-    let not_whole = vec![in rt.alloc(); 0u8; 65537]?;
-    let too_long = vec![in rt.alloc(); 0u8; 65544]?;
+#[inline(never)]
+pub(crate) fn say_refusing(rt: &impl Print) -> Result<()> {
+    let d = making::elements(B.line)?;
+    let too_long = [0; 65544];
+    let not_whole = making::front(&too_long, 65537);
     let both = [PERMIT_SELF, OTHER_KEY];
     // From this each question differs only in the fields that it names.
     let usual = Asked {
@@ -146,7 +147,7 @@ pub(crate) fn say_refusing(rt: &(impl Print + AllocGlobal)) -> Result<()> {
         (
             "B, house of 65537 bytes",
             Asked {
-                house: &not_whole,
+                house: not_whole,
                 recipient: &[],
                 ..usual
             },

@@ -8,10 +8,12 @@ mod shown;
 mod walking;
 
 use anyhow::Result;
+use arrayvec::ArrayVec;
 use dossier::{Refusal, WIDTH};
 use least::Report;
+use marks::Walk;
 use rules::{Combining, LAST_COMBINING};
-use shown::{Marks, Outcome, Rules, Said};
+use shown::{Marks, Outcome, PassingOver, Rules, Said};
 
 // A case: its name, and its elements as they are written.
 #[derive(Clone, Copy)]
@@ -82,12 +84,13 @@ fn judge(d: &[u8], combining: Option<usize>) -> Result<Report, Refusal> {
 }
 
 // The marks that are read back from a folded dossier's rules, over the elements of its line, and the walk's answers.
-fn say_walked(rt: &(impl Print + AllocGlobal), d: &[u8], line: &str, list: &[u8]) -> Result<()> {
-    let mut back = making::elements(rt.alloc(), line)?;
+fn say_walked(rt: &impl Print, d: &[u8], line: &str, list: &[u8]) -> Result<()> {
+    let mut back = making::elements(line)?;
     listing::read_back(&mut back, list)?;
     print!(rt; "; read back{}; walked", Marks(&back))?;
-    for answer in walking::answers(rt.alloc(), d)? {
-        print!(rt; " {}", answer?)?;
+    let mut walk = Walk::fresh();
+    for record in d.chunks_exact(WIDTH) {
+        print!(rt; " {}", walking::answer(&mut walk, record)?)?;
     }
     Ok(())
 }
@@ -105,16 +108,16 @@ fn say_combined(rt: &impl Print, d: &[u8], list: &[u8], combining: usize) -> Res
 
 // A case, folded: the elements, the folder's marks and count, and the rules that they list. Then the marks read back from these and the walk's
 // answers; or, where the combining is said, the rules' answers under it and the judge's verdict.
-fn say_case(rt: &(impl Print + AllocGlobal), case: Case, combining: Option<usize>) -> Result<()> {
+fn say_case(rt: &impl Print, case: Case, combining: Option<usize>) -> Result<()> {
     let Case { name, line } = case;
-    let mut d = making::elements(rt.alloc(), line)?;
+    let mut d = making::elements(line)?;
     let count = fold(&mut d, combining)?;
     print!(rt;
         "{name}, {line}{}: folded{}; rules {count}",
         Said(combining),
         Marks(&d)
     )?;
-    let mut area = vec![in rt.alloc(); [0u8; WIDTH]; ROOM]?;
+    let mut area = ArrayVec::from([[0u8; WIDTH]; ROOM]);
     let listed = listing::list(&d, area.as_flattened_mut())?;
     area.truncate(listed);
     let list = area.as_flattened();
@@ -128,14 +131,9 @@ fn say_case(rt: &(impl Print + AllocGlobal), case: Case, combining: Option<usize
 }
 
 // The verdict on a case with other marks.
-fn say_judged(
-    rt: &(impl Print + AllocGlobal),
-    case: Case,
-    marks: &str,
-    combining: Option<usize>,
-) -> Result<()> {
+fn say_judged(rt: &impl Print, case: Case, marks: &str, combining: Option<usize>) -> Result<()> {
     let Case { name, line } = case;
-    let mut d = making::elements(rt.alloc(), line)?;
+    let mut d = making::elements(line)?;
     making::put_marks(&mut d, marks);
     println!(rt;
         "{name} with {marks}{}: {}",
@@ -146,12 +144,8 @@ fn say_judged(
 }
 
 // What the folder and the judge say of elements that they refuse for this combining.
-fn say_refused(
-    rt: &(impl Print + AllocGlobal),
-    line: &str,
-    combining: Option<usize>,
-) -> Result<()> {
-    let mut d = making::elements(rt.alloc(), line)?;
+fn say_refused(rt: &impl Print, line: &str, combining: Option<usize>) -> Result<()> {
+    let mut d = making::elements(line)?;
     println!(rt;
         "folding {line}{}: {}",
         Said(combining),
@@ -166,7 +160,7 @@ fn say_refused(
 }
 
 // Each case, folded.
-fn say_cases(rt: &(impl Print + AllocGlobal)) -> Result<()> {
+fn say_cases(rt: &impl Print) -> Result<()> {
     for case in CASES {
         say_case(rt, case, None)?;
     }
@@ -174,7 +168,7 @@ fn say_cases(rt: &(impl Print + AllocGlobal)) -> Result<()> {
 }
 
 // The verdicts on other marks.
-fn say_verdicts(rt: &(impl Print + AllocGlobal)) -> Result<()> {
+fn say_verdicts(rt: &impl Print) -> Result<()> {
     let judged = [
         (D, "+ -"),
         (D, "± n"),
@@ -190,7 +184,7 @@ fn say_verdicts(rt: &(impl Print + AllocGlobal)) -> Result<()> {
 }
 
 // Case B for each combining, verdicts where a deny or a permit overrides, and what comes of a combining number past the last.
-fn say_combinings(rt: &(impl Print + AllocGlobal)) -> Result<()> {
+fn say_combinings(rt: &impl Print) -> Result<()> {
     for combining in 0..=LAST_COMBINING {
         say_case(rt, B, Some(combining))?;
     }
@@ -211,12 +205,16 @@ fn say_combinings(rt: &(impl Print + AllocGlobal)) -> Result<()> {
     Ok(())
 }
 
-// Every line that was worked by hand.
+// Every line that was worked by hand, one after the other.
+fn say_all(rt: &impl Print) -> Result<()> {
+    say_cases(rt)?;
+    say_verdicts(rt)?;
+    edges::say_edges(rt)?;
+    lists::say_deciding(rt)?;
+    lists::say_refusing(rt)?;
+    say_combinings(rt)
+}
+
 fn main(rt: HostRuntime) -> Result<()> {
-    say_cases(&rt)?;
-    say_verdicts(&rt)?;
-    edges::say_edges(&rt)?;
-    lists::say_deciding(&rt)?;
-    lists::say_refusing(&rt)?;
-    say_combinings(&rt)
+    say_all(&PassingOver(rt))
 }

@@ -1,6 +1,6 @@
-// Dossiers, made from what is written of them on paper.
+// Dossiers, made from what is written of them on paper. All lie in arrays, so that none asks for memory.
+use arrayvec::ArrayVec;
 use dossier::{Effect, Mark, WIDTH};
-use std::alloc::{AllocError, Global};
 use std::io;
 
 // A record with the mark n, from its depth, its set decision and its key.
@@ -21,14 +21,23 @@ fn element(written: &str) -> Option<(u16, Effect)> {
     Some((depth.parse().ok()?, decision))
 }
 
-// The elements of a line such as `0:0 1:1 2:0`, with the mark n and the keys 10, 20 and so on.
-pub(crate) fn elements(alloc: Global, line: &str) -> io::Result<Vec<u8>> {
-    let mut d = Vec::new(alloc);
+// The elements of a line such as `0:0 1:1 2:0`, with the mark n and the keys 10, 20 and so on. A line has at most eight.
+pub(crate) fn elements(line: &str) -> io::Result<ArrayVec<u8, 64>> {
+    let mut d = ArrayVec::new();
     for (written, key) in line.split(' ').zip((10..).step_by(10)) {
         let (depth, decision) = element(written).ok_or(io::ErrorKind::InvalidInput)?;
-        d.extend_from_slice(&record(depth, decision, key))?;
+        if d.try_extend_from_slice(&record(depth, decision, key))
+            .is_err()
+        {
+            return Err(io::ErrorKind::InvalidInput.into());
+        }
     }
     Ok(d)
+}
+
+// The first n of these bytes, or all of them.
+pub(crate) fn front(s: &[u8], n: usize) -> &[u8] {
+    s.get(..n).unwrap_or(s)
 }
 
 // The mark that is written so, if one is.
@@ -50,18 +59,16 @@ pub(crate) fn put_marks(d: &mut [u8], line: &str) {
     }
 }
 
-// The bytes of a root and children below it, up to this length: all are 0 but each child's byte 0, its depth, which is 1.
-pub(crate) fn flat(alloc: Global, bytes: usize) -> Result<Vec<u8>, AllocError> {
-    (0..bytes)
-        .map(|at| u8::from(at != 0 && at % WIDTH == 0))
-        .collect(alloc)
+// A root and children below it, to the end of an area of noughts: all bytes stay 0 but each child's byte 0, its depth, which is 1.
+pub(crate) fn put_flat(d: &mut [u8]) {
+    for child in d.chunks_exact_mut(WIDTH).skip(1) {
+        child[0] = 1;
+    }
 }
 
-// Elements each below the one before it, down to this depth.
-pub(crate) fn chain(alloc: Global, deepest: u16) -> Result<Vec<u8>, AllocError> {
-    let mut d = Vec::new(alloc);
-    for depth in 0..=deepest {
-        d.extend_from_slice(&record(depth, Effect::Deny, 0))?;
+// Elements each below the one before it, to the end of the area.
+pub(crate) fn put_chain(d: &mut [u8]) {
+    for (place, depth) in d.chunks_exact_mut(WIDTH).zip(0..) {
+        place.copy_from_slice(&record(depth, Effect::Deny, 0));
     }
-    Ok(d)
 }

@@ -1,7 +1,28 @@
 // What is printed, in words: each of these is written as the lines show it.
 use dossier::{Effect, Mark, Refusal, WIDTH};
 use rules::{Combining, Reach};
-use std::fmt;
+use std::{fmt, io};
+
+// What prints, but for what can't be written, which is passed over: what the program has to tell is what it prints.
+#[derive(Drop)]
+pub(crate) struct PassingOver<P>(pub(crate) P);
+
+impl<P: Print> Print for PassingOver<P> {
+    fn print<D: fmt::Display + Drop>(&self, value: D) -> io::Result<()> {
+        let _ = self.0.print(value);
+        Ok(())
+    }
+
+    fn println<D: fmt::Display + Drop>(&self, value: D) -> io::Result<()> {
+        let _ = self.0.println(value);
+        Ok(())
+    }
+
+    fn write_all(&self, bytes: &[u8]) -> io::Result<()> {
+        let _ = self.0.write_all(bytes);
+        Ok(())
+    }
+}
 
 // What came of a call: its value, or the refusal.
 #[derive(Drop)]
@@ -83,6 +104,19 @@ impl fmt::Display for Rule<'_> {
             Reach::All => "all",
         };
         write!(f, "{target} {effect} {reach}")
+    }
+}
+
+// Two lists over case B, a rule in each.
+#[derive(Clone, Copy)]
+pub(crate) struct Lists<'a> {
+    pub(crate) house: Rule<'a>,
+    pub(crate) recipient: Rule<'a>,
+}
+
+impl fmt::Display for Lists<'_> {
+    fn fmt<W: fmt::Write>(&self, f: &mut fmt::Formatter<W>) -> fmt::Result {
+        write!(f, "B, house {}, recipient {}", self.house, self.recipient)
     }
 }
 

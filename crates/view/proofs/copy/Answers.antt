@@ -1,11 +1,12 @@
 -- `view::copy` meets its contract. The invariant: what is left to show, written from its place on, gives the whole. Assumes nothing.
 use Rattle.std.proofs.Common.{length, ap, ◌∙◌, arith}
+use Rattle.view.specs.Inner.{memory}
 use Rattle.view.proofs.Passes.{rest-first, rest-none, rest-shown, rest-hidden, written-shown}
 use Rattle.view.proofs.copy.Goals as goal
 use Rattle.view.proofs.copy.Goals.{then-shown, else-shown}
 
 pub loop-i-init : goal.loop-i-init
-loop-i-init c = let e = rest-first c.args.d.now c.at_first-memory.ensures in (omega (arith, ap length e), rw e)
+loop-i-init c = let e = rest-first c.args.d.now c.from-handed.ensures c.lifted-limit.ensures in (omega (arith, ap length e), rw e)
 
 pub put-requires : goal.put-requires
 put-requires c =
@@ -31,5 +32,5 @@ loop-i-preserved c =
 pub returns : goal.returns
 returns c =
     let at = c.loop-i in
-    let e = rest-none at.memory c.args.d.now at.i c.loop-i-test.false in
+    let e = rest-none (memory at.handed at.limit.depth) c.args.d.now at.i c.loop-i-test.false in
     (omega (arith, ap length e), rw e at at.invariant.1)

@@ -1,6 +1,6 @@
--- `view::Memory::shown` meets its contract. Assumes nothing.
+-- `view::Limit::shown` meets its contract. Assumes nothing.
 use Rattle.view.proofs.Remembering.{reads_below, reads_permit, reads_other}
-use Rattle.view.proofs.Memory.shown.Goals as goal
+use Rattle.view.proofs.Limit.shown.Goals as goal
 
 pub returns-then-depth-self : goal.returns-then-depth-self
 returns-then-depth-self c = reads_below _ _ _ c.depth-depth.ensures c.if-depth-self.true
