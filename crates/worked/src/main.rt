@@ -4,6 +4,7 @@
 mod edges;
 mod lists;
 mod making;
+mod passing;
 mod shown;
 mod walking;
 
@@ -12,8 +13,9 @@ use arrayvec::ArrayVec;
 use dossier::{Refusal, WIDTH};
 use least::Report;
 use marks::Walk;
+use passing::PassingOver;
 use rules::{Combining, LAST_COMBINING};
-use shown::{Marks, Outcome, PassingOver, Rules, Said};
+use shown::{Marks, Outcome, Rules, Said};
 
 // A case: its name, and its elements as they are written.
 #[derive(Clone, Copy)]

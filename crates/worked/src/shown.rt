@@ -1,28 +1,7 @@
 // What is printed, in words: each of these is written as the lines show it.
 use dossier::{Effect, Mark, Refusal, WIDTH};
 use rules::{Combining, Reach};
-use std::{fmt, io};
-
-// What prints, but for what can't be written, which is passed over: what the program has to tell is what it prints.
-#[derive(Drop)]
-pub(crate) struct PassingOver<P>(pub(crate) P);
-
-impl<P: Print> Print for PassingOver<P> {
-    fn print<D: fmt::Display + Drop>(&self, value: D) -> io::Result<()> {
-        let _ = self.0.print(value);
-        Ok(())
-    }
-
-    fn println<D: fmt::Display + Drop>(&self, value: D) -> io::Result<()> {
-        let _ = self.0.println(value);
-        Ok(())
-    }
-
-    fn write_all(&self, bytes: &[u8]) -> io::Result<()> {
-        let _ = self.0.write_all(bytes);
-        Ok(())
-    }
-}
+use std::fmt;
 
 // What came of a call: its value, or the refusal.
 #[derive(Drop)]
